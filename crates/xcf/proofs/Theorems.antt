@@ -1,0 +1,50 @@
+-- The theorems of `specs/Statements.antt`, each proved by a citation; the examples by computing them.
+-- Assumes nothing.
+use mathlib.Core.Path.{refl}
+use mathlib.Core.List.{[]}
+use native.Mathlib.Nat.{zero-add, mul-le-mul}
+use native.Mathlib.Omega.{arith}
+use Rattle.xcf_tile.specs.Operation.{headOf, headAt, operationOf, operationAt}
+use Rattle.xcf_tile.specs.Stream.{streamFrom, streamWithin, streamAt}
+use Rattle.xcf_tile.specs.Tile.{streamsAt, pixel, interleave, encodedTile, tileIn, tileOf}
+use Rattle.xcf_tile.proofs.Consumed.{consumed-decides}
+use Rattle.xcf_tile.proofs.Pixels.{pixels-are-streams as streams-give-pixels, pixels-length, marked-zero}
+use Rattle.xcf_encode.specs.Segment.{leading, equalBytes, copiedBytes, firstSegment, segmentsWithin, segments, written, writtenAll, encodeStream}
+use Rattle.xcf_encode.proofs.Bound.{bound}
+use Rattle.xcf_encode.proofs.ReadBack.{stream-read-back}
+use Rattle.xcf_encode.proofs.TileReadBack.{tile-bound, tile-read-back}
+use Rattle.xcf.specs.Statements.{ExamplesHold, ConsumedBytesDecide, ConsumedBytesDecideTheCall, PixelsAreStreams, PixelsAreWhole, MarkedPixelsAreZero, EncodedStreamBounded, StreamReadsBack, TileReadsBack, EncodedTileFits}
+
+pub examples-hold : ExamplesHold
+unfolding headOf headAt operationOf operationAt streamFrom streamWithin streamAt streamsAt pixel interleave encodedTile tileIn tileOf leading equalBytes copiedBytes firstSegment segmentsWithin segments written writtenAll encodeStream
+examples-hold =
+    (refl, (refl, (refl, (refl, (refl, (refl, (refl, (refl, (refl, (refl, (refl, (refl, ((refl, (refl, refl)), tt)))))))))))))
+
+pub consumed-bytes-decide : ConsumedBytesDecide
+consumed-bytes-decide = consumed-decides
+
+pub consumed-bytes-decide-the-call : ConsumedBytesDecideTheCall
+consumed-bytes-decide-the-call window other w h depth compression good long same old new answer d =
+    let e = consumed-decides window other w h depth compression good long same in
+    record { answer = rw e (d .answer); pixels = rw e (d .pixels) }
+
+pub pixels-are-streams : PixelsAreStreams
+pixels-are-streams = streams-give-pixels
+
+pub pixels-are-whole : PixelsAreWhole
+pixels-are-whole = pixels-length
+
+pub marked-pixels-are-zero : MarkedPixelsAreZero
+marked-pixels-are-zero = marked-zero
+
+pub encoded-stream-bounded : EncodedStreamBounded
+encoded-stream-bounded = bound
+
+pub stream-reads-back : StreamReadsBack
+stream-reads-back bytes rest = rw zero-add at (stream-read-back [] bytes rest)
+
+pub tile-reads-back : TileReadsBack
+tile-reads-back = tile-read-back
+
+pub encoded-tile-fits : EncodedTileFits
+encoded-tile-fits w h depth pixels wide high deep = omega (arith, tile-bound _ depth pixels (mul-le-mul wide high) deep)

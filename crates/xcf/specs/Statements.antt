@@ -1,0 +1,79 @@
+-- The theorems of the library, each in full. `proofs/Theorems.antt` proves each by a citation.
+use mathlib.Core.Path.{_≡_}
+use mathlib.Core.List.{List, [], _++_}
+use Prim.Native.Nat.{ℕ, _+_, _*_, _/_, _≤_, _<_}
+use lib.ListN.{length, getD, take, replicate}
+use Rattle.xcf_tile.specs.Stream.{streamAt}
+use Rattle.xcf_tile.specs.Tile.{streamsAt, tileOf, windowLimit}
+use Rattle.xcf_tile.specs.declared.TileAnswer.{TileAnswer}
+use Rattle.xcf_tile.specs.Answer.{Decoded}
+use Rattle.xcf_encode.specs.Segment.{segments, encodeStream}
+use Rattle.xcf_encode.specs.Tile.{planes, operationsOf, encodeTile}
+use Rattle.xcf.specs.Examples.{table, All}
+
+-- The worked examples of document 01 hold.
+abbrev pub ExamplesHold : Type 0
+ExamplesHold = All table
+
+-- A good tile depends only on the bytes it consumed: another window that has them first gives the same tile.
+abbrev pub ConsumedBytesDecide : Type 0
+ConsumedBytesDecide =
+    (window other : List ℕ) (w h depth compression : ℕ) →
+    let t = tileOf window w h depth compression in
+    t .mark ≡ 0 → t .consumed ≤ length other → take (t .consumed) window ≡ take (t .consumed) other →
+    tileOf other w h depth compression ≡ t
+
+-- So a call with the other window gives the same answer and leaves the same pixels.
+abbrev pub ConsumedBytesDecideTheCall : Type 0
+ConsumedBytesDecideTheCall =
+    (window other : List ℕ) (w h depth compression : ℕ) →
+    let t = tileOf window w h depth compression in
+    t .mark ≡ 0 → t .consumed ≤ length other → take (t .consumed) window ≡ take (t .consumed) other →
+    (old new : List ℕ) (answer : TileAnswer) → Decoded window w h depth compression old answer new → Decoded other w h depth compression old answer new
+
+-- Byte m of pixel i of a good encoded tile is byte i of its stream m.
+abbrev pub PixelsAreStreams : Type 0
+PixelsAreStreams =
+    (window : List ℕ) (w h depth m i : ℕ) →
+    let s = streamsAt depth (take windowLimit window) 0 (w * h) in
+    let t = tileOf window w h depth 1 in
+    t .mark ≡ 0 → m < depth → i < w * h → getD (t .pixels) (m + depth * i) 0 ≡ getD (getD (s .planes) m []) i 0
+
+-- A tile has as many bytes as its pixels, marked or not.
+abbrev pub PixelsAreWhole : Type 0
+PixelsAreWhole = (window : List ℕ) (w h depth compression : ℕ) → length (tileOf window w h depth compression .pixels) ≡ w * h * depth
+
+-- All pixels of a marked tile are zero.
+abbrev pub MarkedPixelsAreZero : Type 0
+MarkedPixelsAreZero =
+    (window : List ℕ) (w h depth compression : ℕ) →
+    let t = tileOf window w h depth compression in (t .mark ≡ 0 → ⊥) → t .pixels ≡ replicate (w * h * depth) 0
+
+-- A stream of n bytes takes at most n + 3 + 2·⌊n/131⌋ bytes.
+abbrev pub EncodedStreamBounded : Type 0
+EncodedStreamBounded = (bytes : List ℕ) → length (encodeStream bytes) ≤ length bytes + 3 + 2 * (length bytes / 131)
+
+-- What was encoded, followed by any bytes at all, decodes to itself: good, the same bytes, exactly the encoding consumed, its
+-- operations counted.
+abbrev pub StreamReadsBack : Type 0
+StreamReadsBack =
+    (bytes rest : List ℕ) →
+    streamAt (encodeStream bytes ++ rest) 0 (length bytes)
+    ≡ record { mark = 0; at = length (encodeStream bytes); operations = length (segments bytes); bytes = bytes }
+
+-- The same of a tile, of any sides and depth that a tile can have.
+abbrev pub TileReadsBack : Type 0
+TileReadsBack =
+    (w h depth : ℕ) (pixels rest : List ℕ) → w ≤ 64 → h ≤ 64 → depth ≤ 4 → length pixels ≡ w * h * depth →
+    tileOf (encodeTile (w * h) depth pixels ++ rest) w h depth 1
+    ≡ record {
+      mark = 0;
+      consumed = length (encodeTile (w * h) depth pixels);
+      operations = operationsOf (planes depth 0 (w * h) depth pixels);
+      pixels = pixels;
+    }
+
+-- An encoded tile fits its window.
+abbrev pub EncodedTileFits : Type 0
+EncodedTileFits =
+    (w h depth : ℕ) (pixels : List ℕ) → w ≤ 64 → h ≤ 64 → depth ≤ 4 → length (encodeTile (w * h) depth pixels) < windowLimit

@@ -1,0 +1,34 @@
+// The exported C interface.
+ghost use Rattle.xcf_tile.specs.Answer.{Decoded};
+ghost use Rattle.xcf_encode.specs.Answer.{TileEncoded};
+use xcf_encode::EncodeAnswer;
+use xcf_tile::TileAnswer;
+
+// The tile of `width` by `height` pixels of `depth` bytes each in a window: plain for compression 0, encoded for 1.
+#[no_mangle]
+pub extern "C" fn xcf_decode_tile(
+    window: &[u8],
+    width: u32,
+    height: u32,
+    depth: u32,
+    compression: u32,
+    pixels: &mut [u8],
+) -> TileAnswer
+    ensures { λ r. ⌜ Decoded (now (window .entry)) width height depth compression (now (pixels .entry)) r (now (pixels .exit)) ⌝ }
+{
+    xcf_tile::decode_tile(window, width, height, depth, compression, pixels)
+}
+
+// The encoding of a tile of `width` by `height` pixels of `depth` bytes each, at the output's start.
+#[no_mangle]
+pub extern "C" fn xcf_encode_tile(
+    pixels: &[u8],
+    width: u32,
+    height: u32,
+    depth: u32,
+    output: &mut [u8],
+) -> EncodeAnswer
+    ensures { λ r. ⌜ TileEncoded (now (pixels .entry)) width height depth (now (output .entry)) r (now (output .exit)) ⌝ }
+{
+    xcf_encode::encode_tile(pixels, width, height, depth, output)
+}

@@ -1,0 +1,12 @@
+pub mod Numbers
+pub mod Segments
+pub mod Scan
+pub mod Stores
+pub mod Written
+pub mod SegmentsLoop
+pub mod Answers
+pub mod Planes
+pub mod StreamsLoop
+pub mod Bound
+pub mod ReadBack
+pub mod TileReadBack

@@ -1,0 +1,45 @@
+-- What a call that encodes one stream or one tile answers and leaves in the output.
+use mathlib.Core.Path.{_≡_}
+use Prim.Native.Nat.{ℕ, _*_}
+use mathlib.Core.List.{List, _++_}
+use mathlib.Core.Bool.{cond}
+use lib.ListN.{length, drop}
+use lib.Dec.{ltb, eqb}
+use Rattle.xcf_encode.specs.declared.EncodeAnswer.{EncodeAnswer}
+use Rattle.xcf_encode.specs.Segment.{encodeStream}
+use Rattle.xcf_encode.specs.Tile.{encodeTile}
+use Rattle.xcf_tile.specs.Answer.{usableTile}
+
+-- a stream has at most this many bytes
+abbrev pub streamLimit : ℕ
+streamLimit = 4096
+
+-- 18 where an encoding of `size` bytes would exceed an output of `room`; else 0
+unfoldable pub roomRefusal : ℕ → ℕ → ℕ
+roomRefusal size room = cond (ltb room size) 18 0
+
+-- 11 for a stream over the limit, then 18; else 0
+unfoldable pub streamRefusal : List ℕ → ℕ → ℕ
+streamRefusal stream room = cond (ltb streamLimit (length stream)) 11 (roomRefusal (length (encodeStream stream)) room)
+
+-- a refusal's length is 0
+unfoldable pub answerOf : ℕ → List ℕ → EncodeAnswer
+answerOf refusal encoding =
+    cond (eqb refusal 0) (record { number = 0; place = 0; length = length encoding }) (record { number = refusal; place = 0; length = 0 })
+
+-- the encoding at the output's start; the rest, and on a refusal all of it, as lent
+unfoldable pub outputOf : ℕ → List ℕ → List ℕ → List ℕ
+outputOf refusal encoding old = cond (eqb refusal 0) (encoding ++ drop (length encoding) old) old
+
+pub record StreamEncoded (stream old : List ℕ) (r : EncodeAnswer) (new : List ℕ) : Type 0 where
+  pub answer : r ≡ answerOf (streamRefusal stream (length old)) (encodeStream stream)
+  pub output : new ≡ outputOf (streamRefusal stream (length old)) (encodeStream stream) old
+
+-- 14 unless the tile is usable, 11 unless the pixels have the tile's length, then 18; else 0
+unfoldable pub tileRefusal : ℕ → ℕ → ℕ → List ℕ → ℕ → ℕ
+tileRefusal w h depth pixels room =
+    cond (usableTile w h depth) (cond (eqb (length pixels) (w * h * depth)) (roomRefusal (length (encodeTile (w * h) depth pixels)) room) 11) 14
+
+pub record TileEncoded (pixels : List ℕ) (w h depth : ℕ) (old : List ℕ) (r : EncodeAnswer) (new : List ℕ) : Type 0 where
+  pub answer : r ≡ answerOf (tileRefusal w h depth pixels (length old)) (encodeTile (w * h) depth pixels)
+  pub output : new ≡ outputOf (tileRefusal w h depth pixels (length old)) (encodeTile (w * h) depth pixels) old

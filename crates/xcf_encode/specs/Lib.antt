@@ -1,0 +1,4 @@
+pub mod Segment
+pub mod Tile
+pub mod Answer
+pub mod Parts

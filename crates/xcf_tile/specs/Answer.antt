@@ -1,0 +1,36 @@
+-- What a call for a single tile answers and leaves in the pixel buffer.
+use mathlib.Core.Path.{_≡_}
+use Prim.Native.Nat.{ℕ, _*_}
+use mathlib.Core.List.{List}
+use mathlib.Core.Bool.{Bool, cond, _&&_}
+use lib.ListN.{length}
+use lib.Dec.{leb, eqb}
+use Rattle.xcf_tile.specs.declared.TileAnswer.{TileAnswer}
+use Rattle.xcf_tile.specs.Tile.{Tile, tileOf}
+
+abbrev pub within : ℕ → ℕ → ℕ → Bool
+within low high x = leb low x && leb x high
+
+-- sides 1 to 64 and depth 1 to 4
+unfoldable pub usableTile : ℕ → ℕ → ℕ → Bool
+usableTile w h depth = within 1 64 w && within 1 64 h && within 1 4 depth
+
+-- 14 unless the tile is usable and compression 0 or 1; then 11 unless the buffer has the tile's length; else 0
+unfoldable pub tileRefusal : ℕ → ℕ → ℕ → ℕ → ℕ → ℕ
+tileRefusal w h depth compression len =
+    cond (usableTile w h depth && leb compression 1) (cond (eqb len (w * h * depth)) 0 11) 14
+
+-- a refusal's other fields are 0
+unfoldable pub answerOf : ℕ → Tile → TileAnswer
+answerOf refusal t =
+    cond (eqb refusal 0)
+    (record { number = 0; place = 0; mark = t .mark; consumed = t .consumed; operations = t .operations })
+    (record { number = refusal; place = 0; mark = 0; consumed = 0; operations = 0 })
+
+-- a refusal leaves the buffer as lent
+unfoldable pub pixelsOf : ℕ → Tile → List ℕ → List ℕ
+pixelsOf refusal t old = cond (eqb refusal 0) (t .pixels) old
+
+pub record Decoded (window : List ℕ) (w h depth compression : ℕ) (old : List ℕ) (r : TileAnswer) (new : List ℕ) : Type 0 where
+  pub answer : r ≡ answerOf (tileRefusal w h depth compression (length old)) (tileOf window w h depth compression)
+  pub pixels : new ≡ pixelsOf (tileRefusal w h depth compression (length old)) (tileOf window w h depth compression) old

@@ -1,0 +1,23 @@
+-- Tiles are 64 by 64, row by row, the last column and row smaller.
+use Prim.Native.Nat.{ℕ, _+_, _-_, _*_, _/_, _%_, min}
+
+abbrev pub tileSide : ℕ
+tileSide = 64
+
+-- how many tiles a side takes
+abbrev pub tilesAlong : ℕ → ℕ
+tilesAlong side = (side + 63) / tileSide
+
+-- how much of a side its tile i takes
+abbrev pub sideOf : ℕ → ℕ → ℕ
+sideOf side i = min tileSide (side - tileSide * i)
+
+abbrev pub tileCount : ℕ → ℕ → ℕ
+tileCount width height = tilesAlong width * tilesAlong height
+
+-- the sides of tile t
+abbrev pub tileWidth : ℕ → ℕ → ℕ
+tileWidth width t = sideOf width (t % tilesAlong width)
+
+abbrev pub tileHeight : ℕ → ℕ → ℕ → ℕ
+tileHeight width height t = sideOf height (t / tilesAlong width)

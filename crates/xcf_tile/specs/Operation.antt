@@ -1,0 +1,47 @@
+-- One operation of an encoded stream. Its opcode and length bytes must be present, then its bytes must fit the stream,
+-- then its data must be present.
+use Prim.Native.Nat.{ℕ, _+_, _-_, _*_}
+use mathlib.Core.List.{List}
+use mathlib.Core.Bool.{cond}
+use lib.ListN.{length, getD}
+use lib.Dec.{ltb, leb, eqb}
+
+-- opcode and length bytes: how many bytes the operation gives and where its data starts; or the window ends within them
+pub data Head : Type 0 where
+  runHead : ℕ → ℕ → Head
+  copyHead : ℕ → ℕ → Head
+  cut : Head
+
+-- p·256 + q of the bytes p, q at `at`
+abbrev pub pair : List ℕ → ℕ → ℕ
+pair ws at = getD ws at 0 * 256 + getD ws (at + 1) 0
+
+-- opcode n up to 126: a run of n+1; 127, p, q: a run of p·256+q; 128, p, q: p·256+q bytes copied; above: 256−n bytes copied
+unfoldable pub headOf : List ℕ → ℕ → ℕ → Head
+headOf ws at n =
+    cond (ltb n 127) (runHead (n + 1) (at + 1))
+    (cond (ltb 128 n) (copyHead (256 - n) (at + 1))
+    (cond (ltb (length ws) (at + 3)) cut
+    (cond (eqb n 127) (runHead (pair ws (at + 1)) (at + 3)) (copyHead (pair ws (at + 1)) (at + 3)))))
+
+unfoldable pub headAt : List ℕ → ℕ → Head
+headAt ws at = cond (leb (length ws) at) cut (headOf ws at (getD ws at 0))
+
+-- a run of `count` bytes `value`, or `count` bytes copied from `from`, and the place behind the operation;
+-- or the window ends too soon; or the operation runs over the end of its stream
+pub data Operation : Type 0 where
+  run : ℕ → ℕ → ℕ → Operation
+  copy : ℕ → ℕ → ℕ → Operation
+  short : Operation
+  over : Operation
+
+-- the operation of a head in a stream that still takes `left` bytes
+unfoldable pub operationOf : List ℕ → ℕ → Head → Operation
+operationOf ws left cut = short
+operationOf ws left (runHead count body) =
+    cond (ltb left count) over (cond (leb (length ws) body) short (run (getD ws body 0) count (body + 1)))
+operationOf ws left (copyHead count body) =
+    cond (ltb left count) over (cond (ltb (length ws) (body + count)) short (copy body count (body + count)))
+
+unfoldable pub operationAt : List ℕ → ℕ → ℕ → Operation
+operationAt ws at left = operationOf ws left (headAt ws at)

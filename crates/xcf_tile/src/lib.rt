@@ -1,0 +1,151 @@
+// One tile of an XCF drawable, decoded from its window.
+mod operation;
+mod scatter;
+mod stream;
+
+ghost use mathlib.Core.Path.{_≡_};
+ghost use Prim.Native.Nat.{_*_};
+ghost use lib.ListN.{length, take};
+ghost use Rattle.xcf_tile.specs.Tile.{plainTile, encodedTile, tileIn, windowLimit};
+ghost use mathlib.Core.Bool.{not};
+ghost use Rattle.xcf_tile.specs.Answer.{within, usableTile, tileRefusal, Decoded};
+ghost use Rattle.xcf_tile.specs.Parts.{Sized, Gives, Usable};
+use crate::scatter::clear;
+use crate::stream::StreamEnd;
+use crate::stream::streams;
+
+#[repr(C)]
+pub struct TileAnswer {
+    pub number: u64,
+    pub place: u64,
+    pub mark: u64,
+    pub consumed: u64,
+    pub operations: u64,
+}
+
+fn decode_encoded(window: &[u8], n: usize, depth: usize, pixels: &mut [u8]) -> StreamEnd
+    requires { ⌜ Sized n depth (now pixels) ⌝ }
+    ensures { λ r. ⌜ Gives (encodedTile (now (window .entry)) n depth) r (now (pixels .exit)) ⌝ }
+{
+    let end = streams(window, n, depth, pixels);
+    if end.mark != 0 {
+        clear(pixels);
+    }
+    end
+}
+
+fn decode_plain(window: &[u8], n: usize, depth: usize, pixels: &mut [u8]) -> StreamEnd
+    requires { ⌜ Sized n depth (now pixels) ⌝ }
+    ensures { λ r. ⌜ Gives (plainTile (now (window .entry)) n depth) r (now (pixels .exit)) ⌝ }
+{
+    let size = pixels.len();
+    if window.len() < size {
+        clear(pixels);
+        return StreamEnd {
+            mark: 20,
+            at: 0,
+            operations: 0,
+        };
+    }
+    bytes::copy(&window[..size], pixels);
+    StreamEnd {
+        mark: 0,
+        at: size,
+        operations: 0,
+    }
+}
+
+fn decode(window: &[u8], n: usize, depth: usize, compression: u32, pixels: &mut [u8]) -> StreamEnd
+    requires { ⌜ Sized n depth (now pixels) ⌝ }
+    ensures { λ r. ⌜ Gives (tileIn (now (window .entry)) n depth compression) r (now (pixels .exit)) ⌝ }
+{
+    if compression == 0 {
+        decode_plain(window, n, depth, pixels)
+    } else {
+        decode_encoded(window, n, depth, pixels)
+    }
+}
+
+fn outside(low: u32, high: u32, x: u32) -> bool
+    ensures { λ r. ⌜ r ≡ not (within low high x) ⌝ }
+{
+    if x < low {
+        return true;
+    }
+    high < x
+}
+
+// Whether a tile may have these sides and this depth.
+pub fn usable_tile(width: u32, height: u32, depth: u32) -> bool
+    ensures { λ r. ⌜ r ≡ usableTile width height depth ⌝ }
+{
+    if outside(1, 64, width) {
+        return false;
+    }
+    if outside(1, 64, height) {
+        return false;
+    }
+    if outside(1, 4, depth) {
+        return false;
+    }
+    true
+}
+
+// 14, 11, or 0 where the call is not refused.
+fn refusal(width: u32, height: u32, depth: u32, compression: u32, length: usize) -> u64
+    ensures { λ r. ⌜ (r ≡ tileRefusal width height depth compression length) × (r ≡ 0 → Usable width height depth compression length) ⌝ }
+{
+    if usable_tile(width, height, depth) {
+        if 1 < compression {
+            return 14;
+        }
+        let size = (width * height * depth) as usize;
+        if length == size {
+            return 0;
+        }
+        return 11;
+    }
+    14
+}
+
+// The bytes of a window that count.
+fn cut(window: &[u8]) -> &[u8]
+    ensures { λ r. ⌜ now r ≡ take windowLimit (now (window .entry)) ⌝ }
+{
+    if window.len() <= 24576 {
+        return window;
+    }
+    &window[..24576]
+}
+
+// The tile of `width` by `height` pixels of `depth` bytes each in a window: plain for compression 0, encoded for 1.
+pub fn decode_tile(
+    window: &[u8],
+    width: u32,
+    height: u32,
+    depth: u32,
+    compression: u32,
+    pixels: &mut [u8],
+) -> TileAnswer
+    ensures { λ r. ⌜ Decoded (now (window .entry)) width height depth compression (now (pixels .entry)) r (now (pixels .exit)) ⌝ }
+{
+    let refused = refusal(width, height, depth, compression, pixels.len());
+    if refused != 0 {
+        return TileAnswer {
+            number: refused,
+            place: 0,
+            mark: 0,
+            consumed: 0,
+            operations: 0,
+        };
+    }
+    let n = (width * height) as usize;
+    let end = decode(cut(window), n, depth as usize, compression, pixels);
+    TileAnswer {
+        number: 0,
+        place: 0,
+        mark: end.mark,
+        consumed: end.at as u64,
+        operations: end.operations as u64,
+    }
+}

@@ -1,0 +1,53 @@
+// A record of the input, numbers high byte first: kind (0 decode, 1 encode), width, height, depth and compression, a byte
+// each; the lengths of the source and of the buffer to lend, two bytes each; the source.
+
+// Where a record's source starts and ends, and the call to make with it.
+pub struct Record {
+    pub encodes: bool,
+    pub width: u32,
+    pub height: u32,
+    pub depth: u32,
+    pub compression: u32,
+    pub from: usize,
+    pub end: usize,
+    pub lent: usize,
+}
+
+pub enum RecordRead {
+    Next(Record),
+    End,
+}
+
+fn wide(x: u8) -> u32 {
+    x as u32
+}
+
+fn pair(p: u8, q: u8) -> usize {
+    (p as usize) * 256 + (q as usize)
+}
+
+// The whole record at `at`, if one stands there.
+pub fn read(input: &[u8], at: usize) -> RecordRead {
+    let size = input.len();
+    if size < at {
+        return RecordRead::End;
+    }
+    if size - at < 9 {
+        return RecordRead::End;
+    }
+    let from = at + 9;
+    let length = pair(input[at + 5], input[at + 6]);
+    if size - from < length {
+        return RecordRead::End;
+    }
+    RecordRead::Next(Record {
+        encodes: input[at] == 1,
+        width: wide(input[at + 1]),
+        height: wide(input[at + 2]),
+        depth: wide(input[at + 3]),
+        compression: wide(input[at + 4]),
+        from,
+        end: from + length,
+        lent: pair(input[at + 7], input[at + 8]),
+    })
+}

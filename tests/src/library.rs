@@ -1,0 +1,72 @@
+//! The static library's functions, with safe wrappers.
+
+use crate::answer::{TileAnswer, WriteAnswer};
+
+unsafe extern "C" {
+    fn xcf_decode_tile(
+        window: *const u8,
+        window_length: usize,
+        width: u32,
+        height: u32,
+        depth: u32,
+        compression: u32,
+        pixels: *mut u8,
+        pixels_length: usize,
+    ) -> TileAnswer;
+
+    fn xcf_encode_tile(
+        pixels: *const u8,
+        pixels_length: usize,
+        width: u32,
+        height: u32,
+        depth: u32,
+        output: *mut u8,
+        output_length: usize,
+    ) -> WriteAnswer;
+}
+
+pub fn decode_tile(
+    window: &[u8],
+    width: u32,
+    height: u32,
+    depth: u32,
+    compression: u32,
+    pixels: &mut [u8],
+) -> TileAnswer {
+    // SAFETY: both slices are valid for their lengths during the call, and
+    // they do not overlap.
+    unsafe {
+        xcf_decode_tile(
+            window.as_ptr(),
+            window.len(),
+            width,
+            height,
+            depth,
+            compression,
+            pixels.as_mut_ptr(),
+            pixels.len(),
+        )
+    }
+}
+
+pub fn encode_tile(
+    pixels: &[u8],
+    width: u32,
+    height: u32,
+    depth: u32,
+    output: &mut [u8],
+) -> WriteAnswer {
+    // SAFETY: both slices are valid for their lengths during the call, and
+    // they do not overlap.
+    unsafe {
+        xcf_encode_tile(
+            pixels.as_ptr(),
+            pixels.len(),
+            width,
+            height,
+            depth,
+            output.as_mut_ptr(),
+            output.len(),
+        )
+    }
+}
