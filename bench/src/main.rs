@@ -145,7 +145,7 @@ fn main() {
     println!("{TILES} tiles of {SIDE} by {SIDE}, medians of {ROUNDS} rounds, ns for a tile");
     println!();
     println!("         depth content     library       plain    ratio");
-    for depth in [1, 4] {
+    for depth in 1..=4 {
         for make in [Tiles::white, Tiles::noise] {
             let tiles = make(depth);
             tiles.compare_decoders();

@@ -41,11 +41,11 @@ no-room e old h =
     let r : roomRefusal (length e) (length old) ≡ 18 = rw (lt-ltb _ _ h) in
     record { answer = rw r (refused-answer 18 e (λ z. omega arith)); output = rw r (refused-output 18 e old (λ z. omega arith)) }
 
-pub stored : {e old : List ℕ} {size r : ℕ} {new : List ℕ} → size ≡ length e → size ≤ length old → Put old 0 e r new → Fitted e old (record { number = 0; place = 0; length = size }) new
+pub stored : {e old : List ℕ} {r : ℕ} {new : List ℕ} → length e ≤ length old → Put old 0 e r new → Fitted e old (record { number = 0; place = 0; length = r }) new
 unfolding roomRefusal
-stored {e} {old} {size} s h p =
-    let r : roomRefusal (length e) (length old) ≡ 0 = rw (le-ltb _ _ (rw s at h)) in
-    record { answer = rw r (stored-answer size e s); output = rw r (stored-output (rw s at h) p) }
+stored {e} {old} h p =
+    let r : roomRefusal (length e) (length old) ≡ 0 = rw (le-ltb _ _ h) in
+    record { answer = rw r (stored-answer _ e (rw zero-add at (p .behind))); output = rw r (stored-output h p) }
 
 -- a stream
 pub too-long : (stream old : List ℕ) → 4096 < length stream → StreamEncoded stream old (record { number = 11; place = 0; length = 0 }) old

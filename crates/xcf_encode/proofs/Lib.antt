@@ -6,7 +6,8 @@ pub mod Written
 pub mod SegmentsLoop
 pub mod Answers
 pub mod Planes
-pub mod StreamsLoop
 pub mod Bound
+pub mod StreamsBound
+pub mod StreamsLoop
 pub mod ReadBack
 pub mod TileReadBack

@@ -1,6 +1,7 @@
 -- Planes gathered from pixels. `GatherLeft`: at the head of the loop over the pixels, what is left to gather from here on
 -- gives the whole plane; one turn is one step of `plane`. `Gathered`: at the head of the loop over the planes, each plane
--- passed stands in its part, and stays there when a later part is replaced.
+-- passed stands in its part, and stays there when a later part is replaced. `one-plane`: pixels of one byte are their only
+-- plane as they stand, byte by byte.
 -- Assumes nothing.
 use mathlib.Core.Path.{_≡_, refl, sym, ap, _∙_}
 use mathlib.Core.List.{List, _∷_, _++_, append-nil}
@@ -10,7 +11,7 @@ use native.Mathlib.Numerals.{add-one}
 use native.Mathlib.Omega.{arith}
 use borrow.Author.Count.{below-more}
 use lib.ListN.{length, getD, set, take, drop, length-append, length-take, length-drop, length-set, take-append-drop, drop-of-length-le}
-use lib.Seq.{sets, sets-eq, take-append-le, drop-append-le, take-at, drop-at}
+use lib.Seq.{sets, sets-eq, take-append-le, drop-append-le, take-at, drop-at, drop-cons}
 use Rattle.xcf_encode.specs.Tile.{plane, planes}
 use Rattle.xcf_encode.specs.Parts.{parts, Pixels, Streams}
 use Rattle.xcf_encode.proofs.Numbers.{one-more}
@@ -119,3 +120,14 @@ parts-planes (suc count) k n depth pixels planar each =
 pub gathered-all : {pixels start : List ℕ} {n depth k at : ℕ} {planar : List ℕ} → Gathered pixels start n depth k at planar → depth ≤ k → parts depth 0 n planar ≡ planes depth 0 n depth pixels
 gathered-all {pixels} {start} {n} {depth} {k} {at} {planar} g h =
     rw (zero-mul n) at (parts-planes depth 0 n depth pixels planar (λ j l. g .each j (omega arith)))
+
+-- pixels of one byte
+plane-bytes : (n at : ℕ) (pixels : List ℕ) → at + n ≤ length pixels → plane n at 1 pixels ≡ take n (drop at pixels)
+unfolding plane
+plane-bytes zero at pixels h = refl
+plane-bytes (suc n) at pixels h =
+    rw (drop-cons pixels at 0 (omega arith), plane-bytes n (at + 1) pixels (omega arith), add-one)
+
+pub one-plane : (n : ℕ) (pixels : List ℕ) → length pixels ≡ n → parts 1 0 n pixels ≡ planes 1 0 n 1 pixels
+unfolding parts planes
+one-plane n pixels e = rw (plane-bytes n 0 pixels (omega arith))

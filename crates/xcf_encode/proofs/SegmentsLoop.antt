@@ -2,21 +2,21 @@
 -- from `at` on gives, with what was done, the whole; one turn is one use of `encode-cons`.
 -- Assumes nothing.
 use mathlib.Core.Path.{_≡_, refl, sym, ap, _∙_}
-use mathlib.Core.List.{List, [], _∷_, _++_}
+use mathlib.Core.List.{List, [], _++_}
 use mathlib.Core.Bool.{true, false}
-use Prim.Native.Nat.{ℕ, _+_, _*_, _≤_, _<_}
+use Prim.Native.Nat.{ℕ, _+_, _≤_, _<_}
 use native.Mathlib.Nat.{add-zero}
 use native.Mathlib.Omega.{arith}
 use borrow.Author.Tests.{leb-true}
 use lib.ListN.{length, getD, take, drop, length-append, length-take, length-drop, drop-of-length-le}
 use lib.Seq.{sets, getD-drop, drop-drop}
 use lib.Dec.{leb}
-use Rattle.xcf_encode.specs.Segment.{equalBytes, copiedBytes, Segment, sizeOf, firstSegment, written, encodeStream}
+use Rattle.xcf_encode.specs.Segment.{equalBytes, copiedBytes, sizeOf, firstSegment, written, encodeStream}
 use Rattle.xcf_encode.specs.Parts.{headSize, SegmentAt, segmentRead, countRead, Put}
 use Rattle.xcf_encode.specs.declared.segment.SegmentRead.{SegmentRead}
 use Rattle.xcf_encode.specs.declared.segment.SegmentRead.the-variants.{Run, Copy}
-use Rattle.xcf_encode.proofs.Segments.{copied-some, first-some, first-inside, rest-shorter, encode-nil, encode-cons, by-length}
-use Rattle.xcf_encode.proofs.Written.{run-length, copy-length, written-small}
+use Rattle.xcf_encode.proofs.Segments.{copied-some, encode-nil, encode-cons}
+use Rattle.xcf_encode.proofs.Written.{run-length, copy-length}
 use Rattle.xcf_encode.proofs.Stores.{sets-append, put-length}
 
 module _ (stream : List ℕ) (at : ℕ) (n : ℕ) (i : at + n ≤ length stream) where
@@ -61,18 +61,6 @@ module _ {stream : List ℕ} {at : ℕ} {r : SegmentRead} (s : SegmentAt stream 
 
   pub turn-length : length (encodeStream (drop at stream)) ≡ sizeRead r + length (encodeStream (drop (at + countRead r) stream))
   turn-length = rw (turn, length-append, read-length stream at r (s .inside))
-
--- an encoding is at most four times as long as its stream
-pub encode-small : (xs : List ℕ) → length (encodeStream xs) ≤ 4 * length xs
-encode-small = by-length (λ xs. length (encodeStream xs) ≤ 4 * length xs) step
-  where
-    step : (xs : List ℕ) → ((ys : List ℕ) → length ys < length xs → length (encodeStream ys) ≤ 4 * length ys) → length (encodeStream xs) ≤ 4 * length xs
-    step [] shorter = rw encode-nil (omega arith)
-    step (x ∷ xs) shorter =
-        let s : Segment = firstSegment (x ∷ xs) in
-        let some : 0 < sizeOf s = first-some (x ∷ xs) (omega arith) in
-        rw (encode-cons (x ∷ xs) (omega arith), length-append)
-        (omega (arith, written-small s some, shorter (drop (sizeOf s) (x ∷ xs)) (rest-shorter (x ∷ xs) (omega arith)), length-drop (sizeOf s) (x ∷ xs), first-inside (x ∷ xs)))
 
 -- the size so far
 pub record SizeLeft (stream : List ℕ) (at size : ℕ) : Type 0 where

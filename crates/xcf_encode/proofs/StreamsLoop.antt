@@ -2,19 +2,19 @@
 -- the whole; one turn is one step of `parts` and of `encodeAll`.
 -- Assumes nothing.
 use mathlib.Core.Path.{_≡_, refl, ap, _∙_}
-use mathlib.Core.List.{List, [], _++_}
+use mathlib.Core.List.{List, [], _++_, append-nil}
 use Prim.Native.Nat.{ℕ, zero, suc, _+_, _*_, _-_, _≤_, _<_}
 use native.Mathlib.Nat.{mul-le-mul, add-sub-cancel-left}
 use native.Mathlib.Numerals.{sub-one}
 use native.Mathlib.Omega.{arith}
-use lib.ListN.{length, take, drop, length-append, length-take}
-use lib.Seq.{sets}
+use lib.ListN.{length, take, drop, length-append}
+use lib.Seq.{sets, take-length}
 use Rattle.xcf_encode.specs.Segment.{encodeStream}
 use Rattle.xcf_encode.specs.Tile.{planes, encodeAll, encodeTile}
-use Rattle.xcf_encode.specs.Parts.{parts, Streams, Put}
+use Rattle.xcf_encode.specs.Parts.{mostBytes, parts, Streams, Put}
 use Rattle.xcf_encode.proofs.Numbers.{one-more, one-less}
 use Rattle.xcf_encode.proofs.Stores.{sets-append, put-part, put-length}
-use Rattle.xcf_encode.proofs.SegmentsLoop.{encode-small}
+use Rattle.xcf_encode.proofs.StreamsBound.{all-bound, parts-within}
 
 -- the encodings of a tile's streams are the tile's
 pub tile-encoding : (n depth : ℕ) (pixels planar : List ℕ) → parts depth 0 n planar ≡ planes depth 0 n depth pixels → encodeAll (parts depth 0 n planar) ≡ encodeTile n depth pixels
@@ -24,6 +24,11 @@ tile-encoding n depth pixels planar e = ap encodeAll e
 -- a buffer with room for the streams of any tile
 pub buffer : (planar : List ℕ) (n depth : ℕ) → length planar ≡ 16384 → n ≤ 4096 → depth ≤ 4 → Streams planar n depth
 buffer planar n depth e s d = record { room = omega (arith, e, mul-le-mul s d); short = s; deep = d }
+
+-- the encoding of one stream
+pub one-encoding : (stream : List ℕ) → encodeAll (parts 1 0 (length stream) stream) ≡ encodeStream stream
+unfolding parts encodeAll
+one-encoding stream = rw (take-length, append-nil)
 
 -- one stream less
 streams-next : (rest at n : ℕ) (planar : List ℕ) → 0 < rest → encodeAll (parts rest at n planar) ≡ encodeStream (take n (drop at planar)) ++ encodeAll (parts (rest - 1) (at + n) n planar)
@@ -35,16 +40,11 @@ streams-none : (rest at n : ℕ) (planar : List ℕ) → rest ≤ 0 → encodeAl
 unfolding parts encodeAll
 streams-none rest at n planar h = let e : rest ≡ 0 = omega arith in rw e
 
--- the encodings are at most four times as long as the streams
-streams-small : (count at n : ℕ) (planar : List ℕ) → length (encodeAll (parts count at n planar)) ≤ 4 * (count * n)
-unfolding parts encodeAll
-streams-small zero at n planar = omega arith
-streams-small (suc count) at n planar =
-    rw length-append
-    (omega (arith, encode-small (take n (drop at planar)), length-take n (drop at planar), streams-small count (at + n) n planar))
-
+-- the encodings of a tile's streams are short
 pub tile-small : {planar : List ℕ} {n depth : ℕ} → Streams planar n depth → length (encodeAll (parts depth 0 n planar)) ≤ 65536
-tile-small {planar} {n} {depth} s = omega (arith, streams-small depth 0 n planar, mul-le-mul (s .deep) (s .short))
+tile-small {planar} {n} {depth} s =
+    let most : mostBytes n ≤ 4161 = omega (arith, s .short) in
+    omega (arith, all-bound (parts-within depth 0 n planar), mul-le-mul (s .deep) most)
 
 -- the size so far
 pub record SizesLeft (planar : List ℕ) (n depth rest at size : ℕ) : Type 0 where

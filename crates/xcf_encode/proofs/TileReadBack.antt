@@ -12,8 +12,9 @@ use lib.Seq.{drop-cons, drop-drop, take-add, take-length, take-append-add}
 use Rattle.xcf_tile.specs.Tile.{streamsAt, pixel, interleave, tileOf, tileIn, encodedTile, windowLimit}
 use Rattle.xcf_encode.specs.Segment.{encodeStream}
 use Rattle.xcf_encode.specs.Tile.{plane, planes, encodeAll, operationsOf, encodeTile}
+use Rattle.xcf_encode.specs.Parts.{mostBytes}
 use Rattle.xcf_encode.proofs.Planes.{plane-length}
-use Rattle.xcf_encode.proofs.Bound.{bound}
+use Rattle.xcf_encode.proofs.StreamsBound.{all-bound, planes-within}
 use Rattle.xcf_encode.proofs.ReadBack.{stream-read-back}
 
 plane-at : (n at depth : ℕ) (pixels : List ℕ) (i : ℕ) → i < n → getD (plane n at depth pixels) i 0 ≡ getD pixels (at + depth * i) 0
@@ -25,16 +26,11 @@ plane-at (suc n) at depth pixels (suc i) h =
     rw e (plane-at n (at + depth) depth pixels i (omega arith))
 
 -- a plane takes 4096 + 3 + 2 * 31 bytes at most
-planes-bound : (count k n depth : ℕ) (pixels : List ℕ) → n ≤ 4096 → length (encodeAll (planes count k n depth pixels)) ≤ 4161 * count
-unfolding encodeAll planes
-planes-bound zero k n depth pixels h = omega arith
-planes-bound (suc count) k n depth pixels h =
-    rw length-append
-    (omega (arith, bound (plane n k depth pixels), plane-length n k depth pixels, planes-bound count (k + 1) n depth pixels h))
-
 pub tile-bound : (n depth : ℕ) (pixels : List ℕ) → n ≤ 4096 → depth ≤ 4 → length (encodeTile n depth pixels) ≤ 16644
 unfolding encodeTile
-tile-bound n depth pixels h d = omega (arith, planes-bound depth 0 n depth pixels h)
+tile-bound n depth pixels h d =
+    let most : mostBytes n ≤ 4161 = omega arith in
+    omega (arith, all-bound (planes-within depth 0 n depth pixels), mul-le-mul d most)
 
 module _ (n depth : ℕ) (pixels : List ℕ) where
   -- the streams of `count` planes from plane k on

@@ -4,12 +4,12 @@
 use mathlib.Core.Path.{_≡_, refl, ap, _∙_}
 use mathlib.Core.List.{List, [], _∷_, _++_}
 use mathlib.Core.Bool.{Bool, true, false, cond}
-use Prim.Native.Nat.{ℕ, _+_, _-_, _*_, _/_, _%_, _≤_, _<_}
+use Prim.Native.Nat.{ℕ, _+_, _-_, _/_, _%_, _≤_, _<_}
 use native.Mathlib.Omega.{arith}
 use borrow.Author.Tests.{le-leb, lt-leb}
 use lib.ListN.{length, take, drop, length-append, length-take, length-drop}
 use lib.Dec.{leb}
-use Rattle.xcf_encode.specs.Segment.{headBytes, Segment, runOf, copyOf, sizeOf, written}
+use Rattle.xcf_encode.specs.Segment.{headBytes, runOf, copyOf, written}
 use Rattle.xcf_encode.specs.Parts.{headSize, Put}
 use Rattle.xcf_encode.proofs.Stores.{copied, put-part, put-append, put-length}
 
@@ -17,16 +17,9 @@ by-test : (b : Bool) (short long a z : ℕ) → length (cond b (short ∷ []) (l
 by-test true short long a z = refl
 by-test false short long a z = refl
 
-at-most : (b : Bool) → cond b 1 3 ≤ 3
-at-most true = omega arith
-at-most false = omega arith
-
 -- the lengths
 pub head-length : (count short long : ℕ) → length (headBytes count short long) ≡ headSize count
 head-length count short long = by-test (leb count 127) short long (count / 256) (count % 256)
-
-pub head-small : (count : ℕ) → headSize count ≤ 3
-head-small count = at-most (leb count 127)
 
 pub run-length : (count value : ℕ) → length (written (runOf count value)) ≡ headSize count + 1
 unfolding written
@@ -35,10 +28,6 @@ run-length count value = rw (length-append, head-length)
 pub copy-length : (bytes : List ℕ) → length (written (copyOf bytes)) ≡ headSize (length bytes) + length bytes
 unfolding written
 copy-length bytes = rw (length-append, head-length)
-
-pub written-small : (s : Segment) → 0 < sizeOf s → length (written s) ≤ 4 * sizeOf s
-written-small (runOf count value) h = omega (arith, run-length count value, head-small count)
-written-small (copyOf bytes) h = omega (arith, copy-length bytes, head-small (length bytes))
 
 -- the bytes
 pub run-short : (count value : ℕ) → count ≤ 127 → written (runOf count value) ≡ (count - 1) ∷ value ∷ []

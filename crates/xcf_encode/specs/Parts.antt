@@ -2,7 +2,7 @@
 use mathlib.Core.Path.{_≡_}
 use mathlib.Core.List.{List, [], _∷_}
 use mathlib.Core.Bool.{cond}
-use Prim.Native.Nat.{ℕ, zero, suc, _+_, _*_, _≤_, _<_}
+use Prim.Native.Nat.{ℕ, zero, suc, _+_, _*_, _/_, _≤_, _<_}
 use lib.ListN.{length, getD, take, drop}
 use lib.Seq.{sets}
 use lib.Dec.{leb}
@@ -41,6 +41,10 @@ pub record Put (old : List ℕ) (to : ℕ) (bs : List ℕ) (r : ℕ) (new : List
 pub record Fitted (encoding old : List ℕ) (r : EncodeAnswer) (new : List ℕ) : Type 0 where
   pub answer : r ≡ answerOf (roomRefusal (length encoding) (length old)) encoding
   pub output : new ≡ outputOf (roomRefusal (length encoding) (length old)) encoding old
+
+-- the most bytes that a stream of n bytes is written in
+abbrev pub mostBytes : ℕ → ℕ
+mostBytes n = n + 3 + 2 * (n / 131)
 
 -- `count` streams of n bytes each, the first at `at`
 unfoldable pub parts : ℕ → ℕ → ℕ → List ℕ → List (List ℕ)

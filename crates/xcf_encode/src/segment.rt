@@ -43,19 +43,24 @@ fn three_equal(stream: &[u8], at: usize) -> bool
     stream[at + 2] == value
 }
 
-// How many bytes from `at` on come before the next three equal ones, or the end.
+// How many bytes from `at` on come before the next three equal ones, or the end. Where the second and the third byte differ,
+// three equal ones start at neither of the first two.
 fn copied_bytes(stream: &[u8], at: usize) -> usize
     requires { ⌜ at ≤ length (now stream) ⌝ }
     ensures { λ r. ⌜ (r ≡ copiedBytes (drop at (now (stream .entry)))) × (at + r ≤ length (now (stream .entry))) ⌝ }
 {
     let mut i = at;
-    while i < stream.len() {
-        if three_equal(stream, i) {
-            return i - at;
+    while i + 2 < stream.len() {
+        if stream[i + 1] != stream[i + 2] {
+            i += 2;
+        } else {
+            if stream[i] == stream[i + 1] {
+                return i - at;
+            }
+            i += 1;
         }
-        i += 1;
     }
-    i - at
+    stream.len() - at
 }
 
 pub(crate) fn segment_at(stream: &[u8], at: usize) -> SegmentRead

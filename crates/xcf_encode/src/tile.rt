@@ -2,11 +2,10 @@
 ghost use mathlib.Core.Path.{_≡_};
 ghost use Prim.Native.Nat.{_*_, _≤_};
 ghost use lib.ListN.{length};
-ghost use Rattle.xcf_encode.specs.Tile.{plane, planes, encodeAll, encodeTile};
-ghost use Rattle.xcf_encode.specs.Parts.{parts, Pixels, Streams, Put, Fitted};
+ghost use Rattle.xcf_encode.specs.Tile.{plane, planes, encodeTile};
+ghost use Rattle.xcf_encode.specs.Parts.{parts, Pixels, Streams, Fitted};
 use crate::EncodeAnswer;
-use crate::encoded_size;
-use crate::put::put_stream;
+use crate::streams::encode_streams;
 
 // Byte k of each pixel.
 fn gather_plane(pixels: &[u8], k: usize, depth: usize, stream: &mut [u8])
@@ -38,41 +37,6 @@ fn gather(pixels: &[u8], n: usize, depth: usize, planar: &mut [u8])
     }
 }
 
-// The length of the streams' encodings.
-fn encoded_sizes(planar: &[u8], n: usize, depth: usize) -> usize
-    requires { ⌜ Streams (now planar) n depth ⌝ }
-    ensures { λ r. ⌜ r ≡ length (encodeAll (parts depth 0 n (now (planar .entry)))) ⌝ }
-{
-    let mut rest = depth;
-    let mut at = 0;
-    let mut size: usize = 0;
-    while 0 < rest {
-        let end = at + n;
-        size += encoded_size(&planar[at..end]);
-        at = end;
-        rest -= 1;
-    }
-    size
-}
-
-// The streams' encodings, one behind the other, at the output's start.
-fn put_streams(planar: &[u8], n: usize, depth: usize, output: &mut [u8]) -> usize
-    requires { ⌜ Streams (now planar) n depth ⌝ }
-    requires { ⌜ length (encodeAll (parts depth 0 n (now planar))) ≤ length (now output) ⌝ }
-    ensures { λ r. ⌜ Put (now (output .entry)) 0 (encodeAll (parts depth 0 n (now (planar .entry)))) r (now (output .exit)) ⌝ }
-{
-    let mut rest = depth;
-    let mut at = 0;
-    let mut to = 0;
-    while 0 < rest {
-        let end = at + n;
-        to += put_stream(&planar[at..end], &mut output[to..]);
-        at = end;
-        rest -= 1;
-    }
-    to
-}
-
 // The encoding of n pixels, with room for their streams.
 fn encode_within(
     pixels: &[u8],
@@ -86,23 +50,19 @@ fn encode_within(
     ensures { λ r. ⌜ Fitted (encodeTile n depth (now (pixels .entry))) (now (output .entry)) r (now (output .exit)) ⌝ }
 {
     gather(pixels, n, depth, planar);
-    let size = encoded_sizes(planar, n, depth);
-    if output.len() < size {
-        return EncodeAnswer {
-            number: 18,
-            place: 0,
-            length: 0,
-        };
-    }
-    put_streams(planar, n, depth, output);
-    EncodeAnswer {
-        number: 0,
-        place: 0,
-        length: size as u64,
-    }
+    encode_streams(planar, n, depth, output)
 }
 
-// The encoding of n pixels of `depth` bytes each.
+// The encoding of n pixels, with room made for their streams.
+fn encode_gathered(pixels: &[u8], n: usize, depth: usize, output: &mut [u8]) -> EncodeAnswer
+    requires { ⌜ (length (now pixels) ≡ n * depth) × ((n ≤ 4096) × (depth ≤ 4)) ⌝ }
+    ensures { λ r. ⌜ Fitted (encodeTile n depth (now (pixels .entry))) (now (output .entry)) r (now (output .exit)) ⌝ }
+{
+    let mut planar = [0u8; 16384];
+    encode_within(pixels, n, depth, &mut planar, output)
+}
+
+// The encoding of n pixels of `depth` bytes each. Pixels of one byte are a stream as they stand.
 pub(crate) fn encode_pixels(
     pixels: &[u8],
     n: usize,
@@ -112,6 +72,8 @@ pub(crate) fn encode_pixels(
     requires { ⌜ (length (now pixels) ≡ n * depth) × ((n ≤ 4096) × (depth ≤ 4)) ⌝ }
     ensures { λ r. ⌜ Fitted (encodeTile n depth (now (pixels .entry))) (now (output .entry)) r (now (output .exit)) ⌝ }
 {
-    let mut planar = [0u8; 16384];
-    encode_within(pixels, n, depth, &mut planar, output)
+    if depth == 1 {
+        return encode_streams(pixels, n, depth, output);
+    }
+    encode_gathered(pixels, n, depth, output)
 }

@@ -43,7 +43,7 @@ fn copy(
     to
 }
 
-// `fill`, with a loop of its own for steps 1 and 4: the compiler makes a block fill of the first, and unrolls the second.
+// `fill`, with a loop of its own for each depth of a pixel: the compiler makes a block fill of the first, and unrolls the others.
 pub(crate) fn put_run(pixels: &mut [u8], at: usize, step: usize, count: usize, value: u8) -> usize
     requires { ⌜ Room (now pixels) at step count ⌝ }
     ensures { λ r. ⌜ (r ≡ at + step * count) × (now (pixels .exit) ≡ scatter (now (pixels .entry)) at step (replicate count value)) ⌝ }
@@ -51,13 +51,19 @@ pub(crate) fn put_run(pixels: &mut [u8], at: usize, step: usize, count: usize, v
     if step == 1 {
         return fill(pixels, at, 1, count, value);
     }
+    if step == 2 {
+        return fill(pixels, at, 2, count, value);
+    }
+    if step == 3 {
+        return fill(pixels, at, 3, count, value);
+    }
     if step == 4 {
         return fill(pixels, at, 4, count, value);
     }
     fill(pixels, at, step, count, value)
 }
 
-// `copy`, with a loop of its own for steps 1 and 4.
+// `copy`, with a loop of its own for each depth of a pixel.
 pub(crate) fn put_copy(
     window: &[u8],
     from: usize,
@@ -71,6 +77,12 @@ pub(crate) fn put_copy(
 {
     if step == 1 {
         return copy(window, from, pixels, at, 1, count);
+    }
+    if step == 2 {
+        return copy(window, from, pixels, at, 2, count);
+    }
+    if step == 3 {
+        return copy(window, from, pixels, at, 3, count);
     }
     if step == 4 {
         return copy(window, from, pixels, at, 4, count);

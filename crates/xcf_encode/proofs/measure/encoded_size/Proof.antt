@@ -5,9 +5,10 @@ use borrow.Author.Needs.{needs}
 use lib.ListN.{length}
 use Rattle.xcf_encode.specs.Parts.{SegmentAt}
 use Rattle.xcf_encode.specs.declared.segment.SegmentRead.the-variants.{Run, Copy}
-use Rattle.xcf_encode.proofs.SegmentsLoop.{encode-small, SizeLeft, size-turn, size-whole}
-use Rattle.xcf_encode.proofs.encoded_size.Statement.{statement}
-use Rattle.xcf_encode.proofs.encoded_size.Tie as tie
+use Rattle.xcf_encode.proofs.Bound.{bound}
+use Rattle.xcf_encode.proofs.SegmentsLoop.{SizeLeft, size-turn, size-whole}
+use Rattle.xcf_encode.proofs.measure.encoded_size.Statement.{statement}
+use Rattle.xcf_encode.proofs.measure.encoded_size.Tie as tie
 
 abbrev Inv-loop : tie.InvT-loop
 Inv-loop stream at₀ size₀ at size = SizeLeft stream at size
@@ -43,10 +44,10 @@ head-size-requires : tie.Need-head-size-requires Inv-loop μ-loop
 head-size-requires c κs = search needs
 
 add-size : tie.Need-add-size Inv-loop μ-loop
-add-size c = omega (arith, run-turn c, encode-small (c .before .before .before .before .before .before .before .before .args .stream .now))
+add-size c = omega (arith, run-turn c, bound (c .before .before .before .before .before .before .before .before .args .stream .now))
 
 add-size-2 : tie.Need-add-size-2 Inv-loop μ-loop
-add-size-2 c = omega (arith, run-turn c, encode-small (c .before .before .before .before .before .before .before .before .args .stream .now))
+add-size-2 c = omega (arith, run-turn c, bound (c .before .before .before .before .before .before .before .before .args .stream .now))
 
 add-at : tie.Need-add-at Inv-loop μ-loop
 add-at c = omega (arith, run-turn c)
@@ -64,10 +65,10 @@ head-size-requires-2 : tie.Need-head-size-requires-2 Inv-loop μ-loop
 head-size-requires-2 c κs = search needs
 
 add-size-3 : tie.Need-add-size-3 Inv-loop μ-loop
-add-size-3 c = omega (arith, copy-turn c, encode-small (c .before .before .before .before .before .before .before .before .args .stream .now))
+add-size-3 c = omega (arith, copy-turn c, bound (c .before .before .before .before .before .before .before .before .args .stream .now))
 
 add-size-4 : tie.Need-add-size-4 Inv-loop μ-loop
-add-size-4 c = omega (arith, copy-turn c, encode-small (c .before .before .before .before .before .before .before .before .args .stream .now))
+add-size-4 c = omega (arith, copy-turn c, bound (c .before .before .before .before .before .before .before .before .args .stream .now))
 
 add-at-2 : tie.Need-add-at-2 Inv-loop μ-loop
 add-at-2 c = omega (arith, copy-turn c)

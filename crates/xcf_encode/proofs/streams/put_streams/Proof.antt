@@ -3,8 +3,8 @@ use native.Mathlib.Omega.{arith}
 use borrow.Author.Needs.{needs}
 use lib.ListN.{length-take, length-drop}
 use Rattle.xcf_encode.proofs.StreamsLoop.{stream-room, StreamsLeft, output-room, streams-turn, streams-whole}
-use Rattle.xcf_encode.proofs.tile.put_streams.Statement.{statement}
-use Rattle.xcf_encode.proofs.tile.put_streams.Tie as tie
+use Rattle.xcf_encode.proofs.streams.put_streams.Statement.{statement}
+use Rattle.xcf_encode.proofs.streams.put_streams.Tie as tie
 
 abbrev Inv-loop : tie.InvT-loop
 Inv-loop planar n depth output₀ rest₀ at₀ to₀ output rest at to = StreamsLeft planar output₀ n depth rest at to output

@@ -1,7 +1,7 @@
 -- Each return is the definition at the test's outcome.
 use borrow.Author.Tests.{le-leb, lt-leb}
-use Rattle.xcf_encode.proofs.head_size.Statement.{statement}
-use Rattle.xcf_encode.proofs.head_size.Tie as tie
+use Rattle.xcf_encode.proofs.measure.head_size.Statement.{statement}
+use Rattle.xcf_encode.proofs.measure.head_size.Tie as tie
 
 returns : tie.Need-returns
 returns c = rw (le-leb _ _ (c .if1 .taken))

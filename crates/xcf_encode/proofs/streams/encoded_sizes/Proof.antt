@@ -2,8 +2,8 @@
 use native.Mathlib.Omega.{arith}
 use borrow.Author.Needs.{needs}
 use Rattle.xcf_encode.proofs.StreamsLoop.{tile-small, SizesLeft, stream-room, sizes-turn, sizes-whole}
-use Rattle.xcf_encode.proofs.tile.encoded_sizes.Statement.{statement}
-use Rattle.xcf_encode.proofs.tile.encoded_sizes.Tie as tie
+use Rattle.xcf_encode.proofs.streams.encoded_sizes.Statement.{statement}
+use Rattle.xcf_encode.proofs.streams.encoded_sizes.Tie as tie
 
 abbrev Inv-loop : tie.InvT-loop
 Inv-loop planar n depth rest₀ at₀ size₀ rest at size = SizesLeft planar n depth rest at size
