@@ -10,13 +10,13 @@ use Rattle.xcf_encode.specs.Segment.{encodeStream}
 
 pub data Example : Type 0 where
   -- a window, the length of the stream at its start, and what it gives
-  stream : List ℕ → ℕ → Stream → Example
+  stream : (window : List ℕ) (n : ℕ) → Stream → Example
   -- a window, width, height and depth of the encoded tile at its start, and what it gives
-  tile : List ℕ → ℕ → ℕ → ℕ → Tile → Example
+  tile : (window : List ℕ) (w h depth : ℕ) → Tile → Example
   -- a stream's bytes and its encoding
-  writing : List ℕ → List ℕ → Example
+  writing : (bytes encoding : List ℕ) → Example
   -- a drawable's width and height, the number of its tiles, and the last tile's width and height
-  sides : ℕ → ℕ → ℕ → ℕ → ℕ → Example
+  sides : (w h count lastW lastH : ℕ) → Example
 
 abbrev pub Holds : Example → Type 0
 Holds (stream window n s) = streamAt window 0 n ≡ s

@@ -23,8 +23,8 @@ copiedBytes (x ∷ xs) = cond (leb 3 (equalBytes (x ∷ xs))) 0 (suc (copiedByte
 
 -- a run of `count` bytes `value`, or bytes copied
 pub data Segment : Type 0 where
-  runOf : ℕ → ℕ → Segment
-  copyOf : List ℕ → Segment
+  runOf : (count value : ℕ) → Segment
+  copyOf : (bytes : List ℕ) → Segment
 
 abbrev pub sizeOf : Segment → ℕ
 sizeOf (runOf count value) = count

@@ -6,10 +6,11 @@ use mathlib.Core.Bool.{cond}
 use lib.ListN.{length, getD}
 use lib.Dec.{ltb, leb, eqb}
 
--- opcode and length bytes: how many bytes the operation gives and where its data starts; or the window ends within them
+-- opcode and length bytes: how many bytes the operation gives and where its data starts; or the window ends before or
+-- within them
 pub data Head : Type 0 where
-  runHead : ℕ → ℕ → Head
-  copyHead : ℕ → ℕ → Head
+  runHead : (count body : ℕ) → Head
+  copyHead : (count body : ℕ) → Head
   cut : Head
 
 -- p·256 + q of the bytes p, q at `at`
@@ -27,11 +28,11 @@ headOf ws at n =
 unfoldable pub headAt : List ℕ → ℕ → Head
 headAt ws at = cond (leb (length ws) at) cut (headOf ws at (getD ws at 0))
 
--- a run of `count` bytes `value`, or `count` bytes copied from `from`, and the place behind the operation;
+-- a run of `count` bytes `value`, or `count` bytes copied from `from`, with `next` the place behind the operation;
 -- or the window ends too soon; or the operation runs over the end of its stream
 pub data Operation : Type 0 where
-  run : ℕ → ℕ → ℕ → Operation
-  copy : ℕ → ℕ → ℕ → Operation
+  run : (value count next : ℕ) → Operation
+  copy : (from count next : ℕ) → Operation
   short : Operation
   over : Operation
 

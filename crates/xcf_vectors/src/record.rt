@@ -27,7 +27,7 @@ fn pair(p: u8, q: u8) -> usize {
 }
 
 // The whole record at `at`, if one stands there.
-pub fn read(input: &[u8], at: usize) -> RecordRead {
+pub(crate) fn read(input: &[u8], at: usize) -> RecordRead {
     let size = input.len();
     if size < at {
         return RecordRead::End;
