@@ -6,7 +6,7 @@ mod plain;
 use std::hint::black_box;
 use std::time::Instant;
 
-use xcf_compare::answer::{TileAnswer, WriteAnswer};
+use xcf_compare::answer::{Decode, Encode, WriteAnswer};
 use xcf_compare::random::Random;
 use xcf_compare::{library, tile};
 
@@ -17,9 +17,6 @@ const ROUNDS: usize = 11;
 
 /// Room for the encoding of any tile of 64 by 64.
 const OUTPUT_LENGTH: usize = 4 * 4_200;
-
-type Decode = fn(&[u8], u32, u32, u32, u32, &mut [u8]) -> TileAnswer;
-type Encode = fn(&[u8], u32, u32, u32, &mut [u8]) -> WriteAnswer;
 
 /// The tiles of one case, each with its own pixels and its own window.
 struct Tiles {

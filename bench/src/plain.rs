@@ -4,6 +4,7 @@ use xcf_compare::answer::{
     GOOD, OUTPUT_TOO_SHORT, OVERRUN, TOO_SOON, TileAnswer, UNUSABLE, WINDOW_LIMIT, WRONG_LENGTH,
     WriteAnswer,
 };
+use xcf_compare::tile::stream_bound;
 
 /// What an operation puts out.
 enum Output<'a> {
@@ -141,55 +142,78 @@ pub fn decode_tile(
     }
 }
 
-fn push_run(encoding: &mut Vec<u8>, value: u8, count: usize) {
+/// Writes a run to the start of `output`; gives its length.
+fn write_run(output: &mut [u8], value: u8, count: usize) -> usize {
     if count <= 127 {
-        encoding.extend_from_slice(&[(count - 1) as u8, value]);
+        output[..2].copy_from_slice(&[(count - 1) as u8, value]);
+        2
     } else {
-        encoding.extend_from_slice(&[127, (count >> 8) as u8, count as u8, value]);
+        output[..4].copy_from_slice(&[127, (count >> 8) as u8, count as u8, value]);
+        4
     }
 }
 
-fn push_copy(encoding: &mut Vec<u8>, bytes: &[u8]) {
+/// Writes a copy to the start of `output`; gives its length.
+fn write_copy(output: &mut [u8], bytes: &[u8]) -> usize {
     let count = bytes.len();
-    if count <= 127 {
-        encoding.push((256 - count) as u8);
+    let header = if count <= 127 {
+        output[0] = (256 - count) as u8;
+        1
     } else {
-        encoding.extend_from_slice(&[128, (count >> 8) as u8, count as u8]);
-    }
-    encoding.extend_from_slice(bytes);
+        output[..3].copy_from_slice(&[128, (count >> 8) as u8, count as u8]);
+        3
+    };
+    output[header..header + count].copy_from_slice(bytes);
+    header + count
 }
 
-fn encode_stream(mut rest: &[u8], encoding: &mut Vec<u8>) {
+/// Encodes a stream to the start of `output`, which has room for the bound;
+/// gives the encoding's length.
+fn encode_stream(mut rest: &[u8], output: &mut [u8]) -> usize {
+    let mut length = 0;
     while let Some(&value) = rest.first() {
         let equal = rest.iter().position(|&byte| byte != value);
         let mut count = equal.unwrap_or(rest.len());
         if count >= 3 {
-            push_run(encoding, value, count);
+            length += write_run(&mut output[length..], value, count);
         } else {
             let run = rest.windows(3).position(|w| w[0] == w[1] && w[1] == w[2]);
             count = run.unwrap_or(rest.len());
-            push_copy(encoding, &rest[..count]);
+            length += write_copy(&mut output[length..], &rest[..count]);
         }
         rest = &rest[count..];
     }
+    length
 }
 
-fn encode_streams<const DEPTH: usize>(pixels: &[u8]) -> Vec<u8> {
-    let mut encoding = Vec::with_capacity(pixels.len() + pixels.len() / 32 + 16);
+/// Encodes the streams one after the other; the output has room for the bound.
+fn encode_streams<const DEPTH: usize>(pixels: &[u8], output: &mut [u8]) -> usize {
     if DEPTH == 1 {
-        encode_stream(pixels, &mut encoding);
-        return encoding;
+        return encode_stream(pixels, output);
     }
     let (pixels, _) = pixels.as_chunks::<DEPTH>();
-    let mut stream = Vec::with_capacity(pixels.len());
+    let mut gathered = [0; 4_096];
+    let stream = &mut gathered[..pixels.len()];
+    let mut length = 0;
     for k in 0..DEPTH {
-        stream.clear();
-        stream.extend(pixels.iter().map(|pixel| pixel[k]));
-        encode_stream(&stream, &mut encoding);
+        for (byte, pixel) in stream.iter_mut().zip(pixels) {
+            *byte = pixel[k];
+        }
+        length += encode_stream(stream, &mut output[length..]);
     }
-    encoding
+    length
 }
 
+fn encode_pixels(pixels: &[u8], depth: u32, output: &mut [u8]) -> usize {
+    match depth {
+        1 => encode_streams::<1>(pixels, output),
+        2 => encode_streams::<2>(pixels, output),
+        3 => encode_streams::<3>(pixels, output),
+        _ => encode_streams::<4>(pixels, output),
+    }
+}
+
+/// Encodes straight into the output where it has room for the bound.
 pub fn encode_tile(
     pixels: &[u8],
     width: u32,
@@ -200,16 +224,16 @@ pub fn encode_tile(
     if let Some(number) = refusal(width, height, depth, pixels) {
         return WriteAnswer::refused(number);
     }
-    let encoding = match depth {
-        1 => encode_streams::<1>(pixels),
-        2 => encode_streams::<2>(pixels),
-        3 => encode_streams::<3>(pixels),
-        _ => encode_streams::<4>(pixels),
-    };
-    match output.get_mut(..encoding.len()) {
+    let bound = depth as usize * stream_bound((width * height) as usize);
+    if output.len() >= bound {
+        return WriteAnswer::written(encode_pixels(pixels, depth, output));
+    }
+    let mut encoding = vec![0; bound];
+    let length = encode_pixels(pixels, depth, &mut encoding);
+    match output.get_mut(..length) {
         Some(start) => {
-            start.copy_from_slice(&encoding);
-            WriteAnswer::written(encoding.len())
+            start.copy_from_slice(&encoding[..length]);
+            WriteAnswer::written(length)
         }
         None => WriteAnswer::refused(OUTPUT_TOO_SHORT),
     }

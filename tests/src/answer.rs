@@ -14,8 +14,16 @@ pub const TOO_SOON: u64 = 20;
 /// The mark of a tile with an operation that runs over its stream's end.
 pub const OVERRUN: u64 = 21;
 
+/// Longer streams are refused.
+pub const STREAM_LIMIT: usize = 4_096;
+
 /// Longer windows are cut here.
 pub const WINDOW_LIMIT: usize = 24_576;
+
+/// A decoder: window, width, height, depth, compression, pixels.
+pub type Decode = fn(&[u8], u32, u32, u32, u32, &mut [u8]) -> TileAnswer;
+/// An encoder: pixels, width, height, depth, output.
+pub type Encode = fn(&[u8], u32, u32, u32, &mut [u8]) -> WriteAnswer;
 
 /// The answer to decoding a tile.
 #[repr(C)]

@@ -7,3 +7,10 @@ pub mod library;
 pub mod random;
 pub mod tile;
 pub mod vectors;
+
+use std::io::Write;
+
+/// Prints a line even where a test's own output is captured.
+pub fn report(line: &str) {
+    writeln!(std::io::stdout(), "{line}").expect("standard output takes all");
+}

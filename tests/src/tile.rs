@@ -1,8 +1,8 @@
 //! The reference: decoding and encoding one tile, written for clarity.
 
 use crate::answer::{
-    GOOD, OUTPUT_TOO_SHORT, OVERRUN, TOO_SOON, TileAnswer, UNUSABLE, WINDOW_LIMIT, WRONG_LENGTH,
-    WriteAnswer,
+    GOOD, OUTPUT_TOO_SHORT, OVERRUN, STREAM_LIMIT, TOO_SOON, TileAnswer, UNUSABLE, WINDOW_LIMIT,
+    WRONG_LENGTH, WriteAnswer,
 };
 
 /// What decoding one stream gives.
@@ -240,10 +240,22 @@ pub fn encode_tile(
     if let Some(number) = refusal(width, height, depth, pixels.len()) {
         return WriteAnswer::refused(number);
     }
-    let encoding = encode_pixels(pixels, depth as usize);
+    write(&encode_pixels(pixels, depth as usize), output)
+}
+
+/// Encodes a stream to the start of `output`.
+pub fn encode_stream_to(stream: &[u8], output: &mut [u8]) -> WriteAnswer {
+    if stream.len() > STREAM_LIMIT {
+        return WriteAnswer::refused(WRONG_LENGTH);
+    }
+    write(&encode_stream(stream), output)
+}
+
+/// Writes an encoding to the start of `output`, if there is room for it.
+fn write(encoding: &[u8], output: &mut [u8]) -> WriteAnswer {
     match output.get_mut(..encoding.len()) {
         Some(start) => {
-            start.copy_from_slice(&encoding);
+            start.copy_from_slice(encoding);
             WriteAnswer::written(encoding.len())
         }
         None => WriteAnswer::refused(OUTPUT_TOO_SHORT),

@@ -1,10 +1,11 @@
 //! Test vectors for a program that runs the tile functions: its standard
 //! input, and the standard output that the reference expects of it.
 //!
-//! A record of the input, with numbers high byte first: kind (0 decode, 1
-//! encode), width, height, depth and compression, a byte each; the length of
-//! the source and the length of the lent buffer, two bytes each; the source
-//! (a window or pixels). The lent buffer is filled with 0xAA before the call.
+//! A record of the input, with numbers high byte first: kind (0 decode a
+//! tile, 1 encode a tile, 2 encode a stream), width, height, depth and
+//! compression, a byte each; the length of the source and the length of the
+//! lent buffer, two bytes each; the source (a window, pixels or a stream). The
+//! lent buffer is filled with 0xAA before the call.
 
 use std::fmt::Write;
 
@@ -20,14 +21,21 @@ const SEED: u64 = 0x7469_6C65_2076_6563;
 /// The lent buffer's bytes before each call.
 pub const FILLING: u8 = 0xAA;
 
-pub const INPUT_LIMIT: usize = 120_000;
+pub const INPUT_LIMIT: usize = 130_000;
 pub const SOURCE_LIMIT: usize = 24_600;
 pub const LENT_LIMIT: usize = 20_000;
+
+#[derive(Clone, Copy, Debug, PartialEq, Eq)]
+pub enum Kind {
+    Decode,
+    Encode,
+    EncodeStream,
+}
 
 /// One call: its bytes in the input, and its line of the output.
 #[derive(Clone, Debug, PartialEq, Eq)]
 pub struct Record {
-    pub encodes: bool,
+    pub kind: Kind,
     pub width: u8,
     pub height: u8,
     pub depth: u8,
@@ -39,7 +47,7 @@ pub struct Record {
 impl Record {
     fn decode(shape: Shape, window: &[u8]) -> Self {
         Record {
-            encodes: false,
+            kind: Kind::Decode,
             width: shape.width as u8,
             height: shape.height as u8,
             depth: shape.depth as u8,
@@ -51,17 +59,29 @@ impl Record {
 
     fn encode(shape: Shape, pixels: &[u8], lent: usize) -> Self {
         Record {
-            encodes: true,
+            kind: Kind::Encode,
             compression: 0,
             lent,
             ..Record::decode(shape, pixels)
         }
     }
 
+    fn encode_stream(stream: &[u8], lent: usize) -> Self {
+        Record {
+            kind: Kind::EncodeStream,
+            width: 0,
+            height: 0,
+            depth: 0,
+            compression: 0,
+            source: stream.to_vec(),
+            lent,
+        }
+    }
+
     /// The case as a record, if its numbers fit their bytes.
     fn from_decode_case(case: &DecodeCase) -> Option<Self> {
         Some(Record {
-            encodes: false,
+            kind: Kind::Decode,
             width: case.width.try_into().ok()?,
             height: case.height.try_into().ok()?,
             depth: case.depth.try_into().ok()?,
@@ -74,7 +94,7 @@ impl Record {
     /// The case as a record, if its numbers fit their bytes.
     fn from_encode_case(case: &EncodeCase) -> Option<Self> {
         Some(Record {
-            encodes: true,
+            kind: Kind::Encode,
             width: case.width.try_into().ok()?,
             height: case.height.try_into().ok()?,
             depth: case.depth.try_into().ok()?,
@@ -86,7 +106,7 @@ impl Record {
 
     fn append_to(&self, input: &mut Vec<u8>) {
         assert!(self.source.len() <= SOURCE_LIMIT && self.lent <= LENT_LIMIT);
-        input.push(u8::from(self.encodes));
+        input.push(self.kind as u8);
         input.extend([self.width, self.height, self.depth, self.compression]);
         input.extend((self.source.len() as u16).to_be_bytes());
         input.extend((self.lent as u16).to_be_bytes());
@@ -95,22 +115,33 @@ impl Record {
 
     /// The output's line for this record, by the reference.
     fn line(&self) -> String {
+        let [width, height, depth, compression] =
+            [self.width, self.height, self.depth, self.compression].map(u32::from);
         let mut lent = vec![FILLING; self.lent];
-        let width = u32::from(self.width);
-        let height = u32::from(self.height);
-        let depth = u32::from(self.depth);
-        if self.encodes {
-            let a = tile::encode_tile(&self.source, width, height, depth, &mut lent);
-            let sum = sum(&lent);
-            format!("write {} {} {} {sum}", a.number, a.place, a.length)
-        } else {
-            let compression = u32::from(self.compression);
-            let a = tile::decode_tile(&self.source, width, height, depth, compression, &mut lent);
-            let sum = sum(&lent);
-            format!(
-                "tile {} {} {} {} {} {sum}",
-                a.number, a.place, a.mark, a.consumed, a.operations
-            )
+        match self.kind {
+            Kind::Decode => {
+                let a =
+                    tile::decode_tile(&self.source, width, height, depth, compression, &mut lent);
+                let sum = sum(&lent);
+                format!(
+                    "tile {} {} {} {} {} {sum}",
+                    a.number, a.place, a.mark, a.consumed, a.operations
+                )
+            }
+            Kind::Encode => {
+                let a = tile::encode_tile(&self.source, width, height, depth, &mut lent);
+                format!("write {} {} {} {}", a.number, a.place, a.length, sum(&lent))
+            }
+            Kind::EncodeStream => {
+                let a = tile::encode_stream_to(&self.source, &mut lent);
+                format!(
+                    "stream {} {} {} {}",
+                    a.number,
+                    a.place,
+                    a.length,
+                    sum(&lent)
+                )
+            }
         }
     }
 }
@@ -138,6 +169,7 @@ pub fn build() -> Vectors {
     records.extend(unusable_numbers());
     records.extend(small_decode_records(&mut random));
     records.extend(small_encode_records(&mut random));
+    records.extend(streams(&mut random));
     let mut vectors = Vectors {
         records: records.len(),
         input: Vec::new(),
@@ -311,6 +343,29 @@ fn small_encode_records(random: &mut Random) -> Vec<Record> {
             let shape = small_shape(random);
             let case = encode::case(random, kind, shape);
             records.extend(Record::from_encode_case(&case).filter(is_small));
+        }
+    }
+    records
+}
+
+/// Streams alone: the examples of 127 and 128 bytes, lengths at the limit and
+/// above it, none at all, and random ones, with room, without and exactly.
+fn streams(random: &mut Random) -> Vec<Record> {
+    let mut streams = vec![vec![0x05; 127], vec![0x05; 128], Vec::new()];
+    for length in [4_096, 4_097] {
+        streams.push(encode::hard_stream(length));
+    }
+    for _ in 0..20 {
+        let length = random.between(1, 200);
+        streams.push(encode::random_stream(random, length));
+    }
+    let mut records = Vec::new();
+    for stream in streams {
+        let needed = tile::encode_stream(&stream).len();
+        records.push(Record::encode_stream(&stream, needed));
+        if stream.len() < 300 {
+            records.push(Record::encode_stream(&stream, needed + 40));
+            records.push(Record::encode_stream(&stream, needed.saturating_sub(1)));
         }
     }
     records

@@ -2,7 +2,6 @@
 
 use std::collections::BTreeMap;
 use std::fmt::Debug;
-use std::io::Write;
 
 use xcf_compare::answer::{
     GOOD, OUTPUT_TOO_SHORT, OVERRUN, TOO_SOON, TileAnswer, UNUSABLE, WRONG_LENGTH, WriteAnswer,
@@ -10,7 +9,7 @@ use xcf_compare::answer::{
 use xcf_compare::cases::decode::{self, DecodeCase};
 use xcf_compare::cases::encode::{self, EncodeCase};
 use xcf_compare::random::Random;
-use xcf_compare::{library, tile};
+use xcf_compare::{library, report, tile};
 
 const DECODE_SEED: u64 = 0x6465_636F_6465_0001;
 const ENCODE_SEED: u64 = 0x656E_636F_6465_0001;
@@ -29,11 +28,6 @@ fn guarded(bytes: &[u8]) -> Vec<u8> {
 fn lent(buffer: &mut [u8]) -> &mut [u8] {
     let end = buffer.len() - GUARD;
     &mut buffer[GUARD..end]
-}
-
-/// Prints a line even where the test's own output is captured.
-fn report(line: &str) {
-    writeln!(std::io::stdout(), "{line}").expect("standard output takes all");
 }
 
 /// Where two buffers differ first, if they do.
@@ -241,7 +235,7 @@ fn every_short_stream_agrees() {
     }
 }
 
-/// Runs and copies of every count that a tile can have, encoded and decoded.
+/// Streams of a whole tile that split at every place, encoded and decoded.
 #[test]
 fn every_count_agrees() {
     for count in 1..4096 {

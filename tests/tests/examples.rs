@@ -1,11 +1,10 @@
 //! The examples that the rules give for streams, tiles and writing, held
 //! against the reference and the library.
 
-use xcf_compare::answer::{GOOD, OVERRUN, TOO_SOON, TileAnswer, UNUSABLE, WriteAnswer};
+use xcf_compare::answer::{
+    Decode, Encode, GOOD, OVERRUN, TOO_SOON, TileAnswer, UNUSABLE, WriteAnswer,
+};
 use xcf_compare::{library, tile};
-
-type Decode = fn(&[u8], u32, u32, u32, u32, &mut [u8]) -> TileAnswer;
-type Encode = fn(&[u8], u32, u32, u32, &mut [u8]) -> WriteAnswer;
 
 const DECODERS: [Decode; 2] = [tile::decode_tile, library::decode_tile];
 const ENCODERS: [Encode; 2] = [tile::encode_tile, library::encode_tile];

@@ -1,21 +1,16 @@
 //! What is encoded decodes to the same pixels, and takes no more bytes than
 //! the bound.
 
-use std::io::Write;
-
-use xcf_compare::answer::{GOOD, TileAnswer, WriteAnswer};
+use xcf_compare::answer::{Decode, Encode, GOOD, TileAnswer};
 use xcf_compare::cases::Shape;
 use xcf_compare::cases::encode::{hard_stream, random_pixels, random_stream};
 use xcf_compare::random::Random;
 use xcf_compare::tile::{encode_stream, stream_bound};
-use xcf_compare::{library, tile};
+use xcf_compare::{library, report, tile};
 
 const ROUND_TRIP_SEED: u64 = 0x726F_756E_6400_0001;
 const BOUND_SEED: u64 = 0x626F_756E_6400_0001;
 const ROUND_TRIPS: usize = 10_000;
-
-type Decode = fn(&[u8], u32, u32, u32, u32, &mut [u8]) -> TileAnswer;
-type Encode = fn(&[u8], u32, u32, u32, &mut [u8]) -> WriteAnswer;
 
 /// An output that every encoding of the shape fits.
 fn output_for(shape: Shape) -> Vec<u8> {
@@ -136,8 +131,9 @@ fn library_stays_within_the_bound() {
 /// Prints, even where output is captured, how many streams took all the bytes
 /// that the bound allows; some must, or they were not demanding.
 fn report_at_bound(what: &str, count: usize) {
-    let line = format!("bound: {count} streams at the bound by the {what}");
-    writeln!(std::io::stdout(), "{line}").expect("standard output takes all");
+    report(&format!(
+        "bound: {count} streams at the bound by the {what}"
+    ));
     assert!(count >= 20);
 }
 

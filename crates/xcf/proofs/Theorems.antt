@@ -47,4 +47,5 @@ pub tile-reads-back : TileReadsBack
 tile-reads-back = tile-read-back
 
 pub encoded-tile-fits : EncodedTileFits
-encoded-tile-fits w h depth pixels wide high deep = omega (arith, tile-bound _ depth pixels (mul-le-mul wide high) deep)
+encoded-tile-fits w h depth pixels wide high deep =
+    let most = tile-bound _ depth pixels (mul-le-mul wide high) deep in (most, omega (arith, most))

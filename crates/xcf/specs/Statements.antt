@@ -73,7 +73,8 @@ TileReadsBack =
       pixels = pixels;
     }
 
--- An encoded tile fits its window.
+-- An encoded tile takes at most 16,644 bytes, so it fits its window.
 abbrev pub EncodedTileFits : Type 0
 EncodedTileFits =
-    (w h depth : ℕ) (pixels : List ℕ) → w ≤ 64 → h ≤ 64 → depth ≤ 4 → length (encodeTile (w * h) depth pixels) < windowLimit
+    (w h depth : ℕ) (pixels : List ℕ) → w ≤ 64 → h ≤ 64 → depth ≤ 4 →
+    let size = length (encodeTile (w * h) depth pixels) in (size ≤ 16644) × (size < windowLimit)

@@ -12,26 +12,26 @@ use lib.Seq.{sets-eq}
 use Rattle.xcf_encode.specs.declared.EncodeAnswer.{EncodeAnswer}
 use Rattle.xcf_encode.specs.Segment.{encodeStream}
 use Rattle.xcf_encode.specs.Tile.{encodeTile}
-use Rattle.xcf_encode.specs.Answer.{roomRefusal, streamRefusal, tileRefusal, answerOf, outputOf, StreamEncoded, TileEncoded}
+use Rattle.xcf_encode.specs.Answer.{roomRefusal, streamRefusal, tileRefusal, encodeAnswer, encodeOutput, StreamEncoded, TileEncoded}
 use Rattle.xcf_encode.specs.Parts.{Put, Fitted}
 use Rattle.xcf_tile.specs.Answer.{usableTile}
 
 -- a refusal
-refused-answer : (n : ℕ) (e : List ℕ) → (n ≡ 0 → ⊥) → record { number = n; place = 0; length = 0 } ≡ answerOf n e
-unfolding answerOf
+refused-answer : (n : ℕ) (e : List ℕ) → (n ≡ 0 → ⊥) → record { number = n; place = 0; length = 0 } ≡ encodeAnswer n e
+unfolding encodeAnswer
 refused-answer n e h = rw (ne-eqb n 0 h)
 
-refused-output : (n : ℕ) (e old : List ℕ) → (n ≡ 0 → ⊥) → old ≡ outputOf n e old
-unfolding outputOf
+refused-output : (n : ℕ) (e old : List ℕ) → (n ≡ 0 → ⊥) → old ≡ encodeOutput n e old
+unfolding encodeOutput
 refused-output n e old h = rw (ne-eqb n 0 h)
 
 -- none
-stored-answer : (n : ℕ) (e : List ℕ) → n ≡ length e → record { number = 0; place = 0; length = n } ≡ answerOf 0 e
-unfolding answerOf
+stored-answer : (n : ℕ) (e : List ℕ) → n ≡ length e → record { number = 0; place = 0; length = n } ≡ encodeAnswer 0 e
+unfolding encodeAnswer
 stored-answer n e h = rw h
 
-stored-output : {old e : List ℕ} {r : ℕ} {new : List ℕ} → length e ≤ length old → Put old 0 e r new → new ≡ outputOf 0 e old
-unfolding outputOf
+stored-output : {old e : List ℕ} {r : ℕ} {new : List ℕ} → length e ≤ length old → Put old 0 e r new → new ≡ encodeOutput 0 e old
+unfolding encodeOutput
 stored-output {old} {e} h p = p .output ∙ rw (sets-eq e old 0 (omega arith), zero-add)
 
 -- where nothing but room is asked for

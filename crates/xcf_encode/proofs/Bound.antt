@@ -1,6 +1,5 @@
--- How long an encoded stream can be. A run is written in fewer bytes than it has. A copy takes one byte more than it has, a
--- long one three, and is followed by a run or the end. So two bytes are lost to 131 at worst, and three at the end.
---     copy-then-run, bound
+-- How long an encoded stream can be (`bound`). A run is written in fewer bytes than it has. A copy takes one byte more than
+-- it has, a long one three, and is followed by a run or the end. So 131 bytes add two at most, and the last copy three.
 -- Assumes nothing.
 use mathlib.Core.Path.{_≡_}
 use mathlib.Core.List.{List, [], _∷_, _++_}
@@ -25,18 +24,13 @@ copy-size bytes =
     by-cases (λ l. length (l ++ bytes) ≤ length bytes + 1 + 2 * min 1 (length bytes / 128)) (leb (length bytes) 127) _ _
     (λ s. omega arith) (λ l. omega (arith, leb-false))
 
+-- a copy is followed by a run or the end
 copied-then-run : (xs : List ℕ) → 0 < length (drop (copiedBytes xs) xs) → leb 3 (equalBytes (drop (copiedBytes xs) xs)) ≡ true
 unfolding copiedBytes
 copied-then-run [] = λ h. absurd (omega arith)
 copied-then-run (x ∷ xs) =
     by-cases (λ n. 0 < length (drop n (x ∷ xs)) → leb 3 (equalBytes (drop n (x ∷ xs))) ≡ true) (leb 3 (equalBytes (x ∷ xs))) _ _
     (λ e _. e) (λ _. copied-then-run xs)
-
--- a copy is followed by a run or the end
-pub copy-then-run : (xs bytes : List ℕ) → firstSegment xs ≡ copyOf bytes → 0 < length (drop (length bytes) xs) → leb 3 (equalBytes (drop (length bytes) xs)) ≡ true
-copy-then-run xs bytes =
-    first (λ s. s ≡ copyOf bytes → 0 < length (drop (length bytes) xs) → leb 3 (equalBytes (drop (length bytes) xs)) ≡ true) xs
-    (λ r e h. cc) (λ e f. let same : copiedBytes xs ≡ length bytes = cc (copied-length xs) in rw same at (copied-then-run xs))
 
 module _ (xs : List ℕ) where
   -- what a run and a copy add to the streams behind them

@@ -13,7 +13,7 @@ use borrow.Author.Count.{below-more}
 use lib.ListN.{length, getD, set, take, drop, length-append, length-take, length-drop, length-set, take-append-drop, drop-of-length-le}
 use lib.Seq.{sets, sets-eq, take-append-le, drop-append-le, take-at, drop-at, drop-cons}
 use Rattle.xcf_encode.specs.Tile.{plane, planes}
-use Rattle.xcf_encode.specs.Parts.{parts, Pixels, Streams}
+use Rattle.xcf_encode.specs.Parts.{parts, Pixels, StreamsRoom}
 use Rattle.xcf_encode.proofs.Numbers.{one-more}
 
 pub plane-length : (n at depth : ℕ) (pixels : List ℕ) → length (plane n at depth pixels) ≡ n
@@ -80,7 +80,7 @@ pub record Gathered (pixels start : List ℕ) (n depth k at : ℕ) (planar : Lis
   pub same : length planar ≡ length start
   pub each : (j : ℕ) → j < k → take n (drop (j * n) planar) ≡ plane n j depth pixels
 
-module _ {pixels start : List ℕ} {n depth k at : ℕ} {planar : List ℕ} (g : Gathered pixels start n depth k at planar) (s : Streams start n depth) (h : k < depth) where
+module _ {pixels start : List ℕ} {n depth k at : ℕ} {planar : List ℕ} (g : Gathered pixels start n depth k at planar) (s : StreamsRoom start n depth) (h : k < depth) where
   pub plane-room : at + n ≤ length planar
   plane-room = omega (arith, g .along, g .same, s .room, one-more k depth n h)
 

@@ -38,11 +38,11 @@ module _ (s : List ℕ) (i : ℕ) (h : i < length s) where
   equal-leading = rw first-byte (omega arith)
 
   -- three equal bytes start here, or one byte more is copied
-  pub copied-stop : leb 3 (equalBytes (drop i s)) ≡ true → copiedBytes (drop i s) ≡ 0
+  copied-stop : leb 3 (equalBytes (drop i s)) ≡ true → copiedBytes (drop i s) ≡ 0
   unfolding copiedBytes
   copied-stop e = rw (first-byte, rw first-byte at e)
 
-  pub copied-more : leb 3 (equalBytes (drop i s)) ≡ false → copiedBytes (drop i s) ≡ 1 + copiedBytes (drop (i + 1) s)
+  copied-more : leb 3 (equalBytes (drop i s)) ≡ false → copiedBytes (drop i s) ≡ 1 + copiedBytes (drop (i + 1) s)
   unfolding copiedBytes
   copied-more e = rw (first-byte, rw first-byte at e) (omega arith)
 

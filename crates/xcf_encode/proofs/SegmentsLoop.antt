@@ -54,7 +54,7 @@ read-length stream at (Copy n) i = copy-length (take n (drop at stream)) ∙ rw 
 
 module _ {stream : List ℕ} {at : ℕ} {r : SegmentRead} (s : SegmentAt stream at r) where
   -- the encoding of what is left: this segment, and what is left behind it
-  pub turn : encodeStream (drop at stream) ≡ written (segmentRead stream at r) ++ encodeStream (drop (at + countRead r) stream)
+  turn : encodeStream (drop at stream) ≡ written (segmentRead stream at r) ++ encodeStream (drop (at + countRead r) stream)
   turn =
       encode-cons (drop at stream) (rw length-drop (omega (arith, s .some, s .inside)))
       ∙ rw (sym (s .segment), read-size stream at r (s .inside), drop-drop)

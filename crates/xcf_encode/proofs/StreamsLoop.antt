@@ -11,7 +11,7 @@ use lib.ListN.{length, take, drop, length-append}
 use lib.Seq.{sets, take-length}
 use Rattle.xcf_encode.specs.Segment.{encodeStream}
 use Rattle.xcf_encode.specs.Tile.{planes, encodeAll, encodeTile}
-use Rattle.xcf_encode.specs.Parts.{mostBytes, parts, Streams, Put}
+use Rattle.xcf_encode.specs.Parts.{mostBytes, parts, StreamsRoom, Put}
 use Rattle.xcf_encode.proofs.Numbers.{one-more, one-less}
 use Rattle.xcf_encode.proofs.Stores.{sets-append, put-part, put-length}
 use Rattle.xcf_encode.proofs.StreamsBound.{all-bound, parts-within}
@@ -22,7 +22,7 @@ unfolding encodeTile
 tile-encoding n depth pixels planar e = ap encodeAll e
 
 -- a buffer with room for the streams of any tile
-pub buffer : (planar : List ℕ) (n depth : ℕ) → length planar ≡ 16384 → n ≤ 4096 → depth ≤ 4 → Streams planar n depth
+pub buffer : (planar : List ℕ) (n depth : ℕ) → length planar ≡ 16384 → n ≤ 4096 → depth ≤ 4 → StreamsRoom planar n depth
 buffer planar n depth e s d = record { room = omega (arith, e, mul-le-mul s d); short = s; deep = d }
 
 -- the encoding of one stream
@@ -41,7 +41,7 @@ unfolding parts encodeAll
 streams-none rest at n planar h = let e : rest ≡ 0 = omega arith in rw e
 
 -- the encodings of a tile's streams are short
-pub tile-small : {planar : List ℕ} {n depth : ℕ} → Streams planar n depth → length (encodeAll (parts depth 0 n planar)) ≤ 65536
+pub tile-small : {planar : List ℕ} {n depth : ℕ} → StreamsRoom planar n depth → length (encodeAll (parts depth 0 n planar)) ≤ 65536
 tile-small {planar} {n} {depth} s =
     let most : mostBytes n ≤ 4161 = omega (arith, s .short) in
     omega (arith, all-bound (parts-within depth 0 n planar), mul-le-mul (s .deep) most)
@@ -51,7 +51,7 @@ pub record SizesLeft (planar : List ℕ) (n depth rest at size : ℕ) : Type 0 w
   pub inside : at + rest * n ≡ depth * n
   pub whole : size + length (encodeAll (parts rest at n planar)) ≡ length (encodeAll (parts depth 0 n planar))
 
-module _ {planar : List ℕ} {n depth rest at size : ℕ} (l : SizesLeft planar n depth rest at size) (s : Streams planar n depth) (h : 0 < rest) where
+module _ {planar : List ℕ} {n depth rest at size : ℕ} (l : SizesLeft planar n depth rest at size) (s : StreamsRoom planar n depth) (h : 0 < rest) where
   pub stream-room : at + n ≤ length planar
   stream-room = omega (arith, l .inside, s .room, one-more 0 rest n h)
 
@@ -72,7 +72,7 @@ pub record StreamsLeft (planar start : List ℕ) (n depth rest at to : ℕ) (out
   pub same : length output ≡ length start
   pub whole : sets output to (encodeAll (parts rest at n planar)) ≡ sets start 0 (encodeAll (parts depth 0 n planar))
 
-module _ {planar start : List ℕ} {n depth rest at to : ℕ} {output : List ℕ} (l : StreamsLeft planar start n depth rest at to output) (s : Streams planar n depth) (h : 0 < rest) (fits : length (encodeAll (parts depth 0 n planar)) ≤ length start) where
+module _ {planar start : List ℕ} {n depth rest at to : ℕ} {output : List ℕ} (l : StreamsLeft planar start n depth rest at to output) (s : StreamsRoom planar n depth) (h : 0 < rest) (fits : length (encodeAll (parts depth 0 n planar)) ≤ length start) where
   -- what is left fits, so this stream does
   pub output-room : to + length (encodeStream (take (at + n - at) (drop at planar))) ≤ length output
   output-room = omega (arith, sizes-turn (l .sizes) s h _ refl .whole, l .same)

@@ -38,7 +38,7 @@ pub run-long : (count value : ℕ) → 127 < count → written (runOf count valu
 unfolding written
 run-long count value h = rw (lt-leb _ _ h)
 
-pub copy-bytes : (bytes : List ℕ) → written (copyOf bytes) ≡ headBytes (length bytes) (256 - length bytes) 128 ++ bytes
+copy-bytes : (bytes : List ℕ) → written (copyOf bytes) ≡ headBytes (length bytes) (256 - length bytes) 128 ++ bytes
 unfolding written
 copy-bytes bytes = refl
 

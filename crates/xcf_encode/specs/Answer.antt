@@ -23,17 +23,17 @@ unfoldable pub streamRefusal : List ℕ → ℕ → ℕ
 streamRefusal stream room = cond (ltb streamLimit (length stream)) 11 (roomRefusal (length (encodeStream stream)) room)
 
 -- a refusal's length is 0
-unfoldable pub answerOf : ℕ → List ℕ → EncodeAnswer
-answerOf refusal encoding =
+unfoldable pub encodeAnswer : ℕ → List ℕ → EncodeAnswer
+encodeAnswer refusal encoding =
     cond (eqb refusal 0) (record { number = 0; place = 0; length = length encoding }) (record { number = refusal; place = 0; length = 0 })
 
 -- the encoding at the output's start; the rest, and on a refusal all of it, as lent
-unfoldable pub outputOf : ℕ → List ℕ → List ℕ → List ℕ
-outputOf refusal encoding old = cond (eqb refusal 0) (encoding ++ drop (length encoding) old) old
+unfoldable pub encodeOutput : ℕ → List ℕ → List ℕ → List ℕ
+encodeOutput refusal encoding old = cond (eqb refusal 0) (encoding ++ drop (length encoding) old) old
 
 pub record StreamEncoded (stream old : List ℕ) (r : EncodeAnswer) (new : List ℕ) : Type 0 where
-  pub answer : r ≡ answerOf (streamRefusal stream (length old)) (encodeStream stream)
-  pub output : new ≡ outputOf (streamRefusal stream (length old)) (encodeStream stream) old
+  pub answer : r ≡ encodeAnswer (streamRefusal stream (length old)) (encodeStream stream)
+  pub output : new ≡ encodeOutput (streamRefusal stream (length old)) (encodeStream stream) old
 
 -- 14 unless the tile is usable, 11 unless the pixels have the tile's length, then 18; else 0
 unfoldable pub tileRefusal : ℕ → ℕ → ℕ → List ℕ → ℕ → ℕ
@@ -41,5 +41,5 @@ tileRefusal w h depth pixels room =
     cond (usableTile w h depth) (cond (eqb (length pixels) (w * h * depth)) (roomRefusal (length (encodeTile (w * h) depth pixels)) room) 11) 14
 
 pub record TileEncoded (pixels : List ℕ) (w h depth : ℕ) (old : List ℕ) (r : EncodeAnswer) (new : List ℕ) : Type 0 where
-  pub answer : r ≡ answerOf (tileRefusal w h depth pixels (length old)) (encodeTile (w * h) depth pixels)
-  pub output : new ≡ outputOf (tileRefusal w h depth pixels (length old)) (encodeTile (w * h) depth pixels) old
+  pub answer : r ≡ encodeAnswer (tileRefusal w h depth pixels (length old)) (encodeTile (w * h) depth pixels)
+  pub output : new ≡ encodeOutput (tileRefusal w h depth pixels (length old)) (encodeTile (w * h) depth pixels) old

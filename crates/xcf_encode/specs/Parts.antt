@@ -10,7 +10,7 @@ use Rattle.xcf_encode.specs.declared.segment.SegmentRead.{SegmentRead}
 use Rattle.xcf_encode.specs.declared.segment.SegmentRead.the-variants.{Run, Copy}
 use Rattle.xcf_encode.specs.declared.EncodeAnswer.{EncodeAnswer}
 use Rattle.xcf_encode.specs.Segment.{Segment, runOf, copyOf, firstSegment}
-use Rattle.xcf_encode.specs.Answer.{roomRefusal, answerOf, outputOf}
+use Rattle.xcf_encode.specs.Answer.{roomRefusal, encodeAnswer, encodeOutput}
 
 -- the length of an operation's opcode and length bytes
 abbrev pub headSize : ℕ → ℕ
@@ -39,8 +39,8 @@ pub record Put (old : List ℕ) (to : ℕ) (bs : List ℕ) (r : ℕ) (new : List
 
 -- what is answered and left in the output where nothing but room is asked for
 pub record Fitted (encoding old : List ℕ) (r : EncodeAnswer) (new : List ℕ) : Type 0 where
-  pub answer : r ≡ answerOf (roomRefusal (length encoding) (length old)) encoding
-  pub output : new ≡ outputOf (roomRefusal (length encoding) (length old)) encoding old
+  pub answer : r ≡ encodeAnswer (roomRefusal (length encoding) (length old)) encoding
+  pub output : new ≡ encodeOutput (roomRefusal (length encoding) (length old)) encoding old
 
 -- the most bytes that a stream of n bytes is written in
 abbrev pub mostBytes : ℕ → ℕ
@@ -58,7 +58,7 @@ pub record Pixels (pixels : List ℕ) (n k depth : ℕ) : Type 0 where
   pub small : length pixels + depth < 4294967296
 
 -- room for the streams of n pixels of `depth` bytes each
-pub record Streams (planar : List ℕ) (n depth : ℕ) : Type 0 where
+pub record StreamsRoom (planar : List ℕ) (n depth : ℕ) : Type 0 where
   pub room : n * depth ≤ length planar
   pub short : n ≤ 4096
   pub deep : depth ≤ 4

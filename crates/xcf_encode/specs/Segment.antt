@@ -43,7 +43,7 @@ segmentsWithin (suc fuel) (x ∷ xs) = firstSegment (x ∷ xs) ∷ segmentsWithi
 unfoldable pub segments : List ℕ → List Segment
 segments xs = segmentsWithin (length xs) xs
 
--- opcode and length bytes of an operation for `count` bytes
+-- opcode and length bytes of an operation for `count` bytes, whose opcode is `short` or `long`
 abbrev pub headBytes : ℕ → ℕ → ℕ → List ℕ
 headBytes count short long = cond (leb count 127) (short ∷ []) (long ∷ count / 256 ∷ count % 256 ∷ [])
 

@@ -4,7 +4,7 @@ use mathlib.Core.List.{List, [], _∷_, _++_}
 use lib.ListN.{length, getD}
 use Rattle.xcf_encode.specs.Segment.{segments, encodeStream}
 
--- byte k of n pixels of `depth` bytes each, the first of them at `at`
+-- n bytes of the pixels, the first at `at` and each `depth` behind the one before
 unfoldable pub plane : ℕ → ℕ → ℕ → List ℕ → List ℕ
 plane zero at depth pixels = []
 plane (suc n) at depth pixels = getD pixels at 0 ∷ plane n (at + depth) depth pixels

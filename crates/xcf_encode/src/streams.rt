@@ -1,10 +1,10 @@
-// Streams of n bytes each, one behind the other: measured and encoded.
+// StreamsRoom of n bytes each, one behind the other: measured and encoded.
 ghost use mathlib.Core.Path.{_≡_};
 ghost use Prim.Native.Nat.{_≤_};
 ghost use lib.ListN.{length};
 ghost use lib.Dec.{leb};
 ghost use Rattle.xcf_encode.specs.Tile.{encodeAll};
-ghost use Rattle.xcf_encode.specs.Parts.{mostBytes, parts, Streams, Put, Fitted};
+ghost use Rattle.xcf_encode.specs.Parts.{mostBytes, parts, StreamsRoom, Put, Fitted};
 use crate::EncodeAnswer;
 use crate::measure::encoded_size;
 use crate::put::put_stream;
@@ -19,7 +19,7 @@ fn most_bytes(n: usize) -> usize
 
 // The length of the streams' encodings.
 fn encoded_sizes(planar: &[u8], n: usize, depth: usize) -> usize
-    requires { ⌜ Streams (now planar) n depth ⌝ }
+    requires { ⌜ StreamsRoom (now planar) n depth ⌝ }
     ensures { λ r. ⌜ r ≡ length (encodeAll (parts depth 0 n (now (planar .entry)))) ⌝ }
 {
     let mut rest = depth;
@@ -36,7 +36,7 @@ fn encoded_sizes(planar: &[u8], n: usize, depth: usize) -> usize
 
 // Whether the streams' encodings fit; they are measured only where the most that they can take does not.
 fn fits(planar: &[u8], n: usize, depth: usize, room: usize) -> bool
-    requires { ⌜ Streams (now planar) n depth ⌝ }
+    requires { ⌜ StreamsRoom (now planar) n depth ⌝ }
     ensures { λ r. ⌜ r ≡ leb (length (encodeAll (parts depth 0 n (now (planar .entry))))) room ⌝ }
 {
     if depth * most_bytes(n) <= room {
@@ -47,7 +47,7 @@ fn fits(planar: &[u8], n: usize, depth: usize, room: usize) -> bool
 
 // The streams' encodings, one behind the other, at the output's start.
 fn put_streams(planar: &[u8], n: usize, depth: usize, output: &mut [u8]) -> usize
-    requires { ⌜ Streams (now planar) n depth ⌝ }
+    requires { ⌜ StreamsRoom (now planar) n depth ⌝ }
     requires { ⌜ length (encodeAll (parts depth 0 n (now planar))) ≤ length (now output) ⌝ }
     ensures { λ r. ⌜ Put (now (output .entry)) 0 (encodeAll (parts depth 0 n (now (planar .entry)))) r (now (output .exit)) ⌝ }
 {
@@ -70,7 +70,7 @@ pub(crate) fn encode_streams(
     depth: usize,
     output: &mut [u8],
 ) -> EncodeAnswer
-    requires { ⌜ Streams (now planar) n depth ⌝ }
+    requires { ⌜ StreamsRoom (now planar) n depth ⌝ }
     ensures { λ r. ⌜ Fitted (encodeAll (parts depth 0 n (now (planar .entry)))) (now (output .entry)) r (now (output .exit)) ⌝ }
 {
     if fits(planar, n, depth, output.len()) {

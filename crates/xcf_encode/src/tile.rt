@@ -3,7 +3,7 @@ ghost use mathlib.Core.Path.{_≡_};
 ghost use Prim.Native.Nat.{_*_, _≤_};
 ghost use lib.ListN.{length};
 ghost use Rattle.xcf_encode.specs.Tile.{plane, planes, encodeTile};
-ghost use Rattle.xcf_encode.specs.Parts.{parts, Pixels, Streams, Fitted};
+ghost use Rattle.xcf_encode.specs.Parts.{parts, Pixels, StreamsRoom, Fitted};
 use crate::EncodeAnswer;
 use crate::streams::encode_streams;
 
@@ -24,7 +24,7 @@ fn gather_plane(pixels: &[u8], k: usize, depth: usize, stream: &mut [u8])
 // The tile's streams, one behind the other.
 fn gather(pixels: &[u8], n: usize, depth: usize, planar: &mut [u8])
     requires { ⌜ length (now pixels) ≡ n * depth ⌝ }
-    requires { ⌜ Streams (now planar) n depth ⌝ }
+    requires { ⌜ StreamsRoom (now planar) n depth ⌝ }
     ensures { λ _. ⌜ parts depth 0 n (now (planar .exit)) ≡ planes depth 0 n depth (now (pixels .entry)) ⌝ }
 {
     let mut k = 0;
@@ -46,7 +46,7 @@ fn encode_within(
     output: &mut [u8],
 ) -> EncodeAnswer
     requires { ⌜ length (now pixels) ≡ n * depth ⌝ }
-    requires { ⌜ Streams (now planar) n depth ⌝ }
+    requires { ⌜ StreamsRoom (now planar) n depth ⌝ }
     ensures { λ r. ⌜ Fitted (encodeTile n depth (now (pixels .entry))) (now (output .entry)) r (now (output .exit)) ⌝ }
 {
     gather(pixels, n, depth, planar);

@@ -73,9 +73,6 @@ module _ (ws vs : List ℕ) (m : ℕ) (same : take m ws ≡ take m vs) (long : m
   byte-same : (i : ℕ) → i < m → getD vs i 0 ≡ getD ws i 0
   byte-same i h = sym (getD-take m vs i 0 h) ∙ ap (λ (l : List ℕ). getD l i 0) (sym same) ∙ getD-take m ws i 0 h
 
-  pair-same : (at : ℕ) → at + 2 ≤ m → pair vs at ≡ pair ws at
-  pair-same at h = rw (byte-same at (omega arith), byte-same (at + 1) (omega arith))
-
   abbrev HeadSame : ℕ → Head → Type 0
   HeadSame at h = HeadBefore m h → headAt vs at ≡ h
 

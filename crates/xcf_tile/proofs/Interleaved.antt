@@ -92,14 +92,14 @@ each-at n (p ∷ ps) zero e h = e .0
 each-at n (p ∷ ps) (suc m) e h = each-at n ps m (e .1) (le-of-suc-le-suc h)
 
 -- a place of d * n bytes as a byte of a pixel
-pub record Place (d n j : ℕ) : Type 0 where
+record Place (d n j : ℕ) : Type 0 where
   pub byte : ℕ
   pub index : ℕ
   pub below : byte < d
   pub inside : index < n
   pub place : byte + d * index ≡ j
 
-pub place-of : (d n j : ℕ) → j < d * n → Place d n j
+place-of : (d n j : ℕ) → j < d * n → Place d n j
 place-of zero n j h = absurd (not-suc-le-zero (rw zero-mul at h))
 place-of (suc d) n j h = record {
   byte = j % suc d;

@@ -16,21 +16,21 @@ unfoldable pub usableTile : ℕ → ℕ → ℕ → Bool
 usableTile w h depth = within 1 64 w && within 1 64 h && within 1 4 depth
 
 -- 14 unless the tile is usable and compression 0 or 1; then 11 unless the buffer has the tile's length; else 0
-unfoldable pub tileRefusal : ℕ → ℕ → ℕ → ℕ → ℕ → ℕ
-tileRefusal w h depth compression len =
+unfoldable pub decodeRefusal : ℕ → ℕ → ℕ → ℕ → ℕ → ℕ
+decodeRefusal w h depth compression len =
     cond (usableTile w h depth && leb compression 1) (cond (eqb len (w * h * depth)) 0 11) 14
 
 -- a refusal's other fields are 0
-unfoldable pub answerOf : ℕ → Tile → TileAnswer
-answerOf refusal t =
+unfoldable pub decodeAnswer : ℕ → Tile → TileAnswer
+decodeAnswer refusal t =
     cond (eqb refusal 0)
     (record { number = 0; place = 0; mark = t .mark; consumed = t .consumed; operations = t .operations })
     (record { number = refusal; place = 0; mark = 0; consumed = 0; operations = 0 })
 
 -- a refusal leaves the buffer as lent
-unfoldable pub pixelsOf : ℕ → Tile → List ℕ → List ℕ
-pixelsOf refusal t old = cond (eqb refusal 0) (t .pixels) old
+unfoldable pub decodePixels : ℕ → Tile → List ℕ → List ℕ
+decodePixels refusal t old = cond (eqb refusal 0) (t .pixels) old
 
 pub record Decoded (window : List ℕ) (w h depth compression : ℕ) (old : List ℕ) (r : TileAnswer) (new : List ℕ) : Type 0 where
-  pub answer : r ≡ answerOf (tileRefusal w h depth compression (length old)) (tileOf window w h depth compression)
-  pub pixels : new ≡ pixelsOf (tileRefusal w h depth compression (length old)) (tileOf window w h depth compression) old
+  pub answer : r ≡ decodeAnswer (decodeRefusal w h depth compression (length old)) (tileOf window w h depth compression)
+  pub pixels : new ≡ decodePixels (decodeRefusal w h depth compression (length old)) (tileOf window w h depth compression) old

@@ -6,7 +6,7 @@ tileSide = 64
 
 -- how many tiles a side takes
 abbrev pub tilesAlong : ℕ → ℕ
-tilesAlong side = (side + 63) / tileSide
+tilesAlong side = (side + (tileSide - 1)) / tileSide
 
 -- how much of a side its tile i takes
 abbrev pub sideOf : ℕ → ℕ → ℕ

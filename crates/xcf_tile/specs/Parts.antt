@@ -23,6 +23,9 @@ operationRead (Copy from count next) = copy from count next
 operationRead Short = short
 operationRead Over = over
 
+abbrev pub endedAt : ℕ → ℕ → ℕ → StreamEnd
+endedAt mark at operations = record { mark = mark; at = at; operations = operations }
+
 -- bs put into the buffer at `at` and every `step` places after it
 abbrev pub scatter : List ℕ → ℕ → ℕ → List ℕ → List ℕ
 scatter buf at step [] = buf

@@ -58,7 +58,7 @@ encodedTile ws n depth =
       pixels = cond (eqb (s .mark) 0) (interleave n 0 (s .planes)) (replicate (n * depth) 0);
     }
 
--- compression 0 is plain, 1 encoded
+-- compression 0 is plain, 1 encoded; a call with any other is refused
 unfoldable pub tileIn : List ℕ → ℕ → ℕ → ℕ → Tile
 tileIn ws n depth compression = cond (eqb compression 0) (plainTile ws n depth) (encodedTile ws n depth)
 

@@ -4,14 +4,14 @@ mod scatter;
 mod stream;
 
 ghost use mathlib.Core.Path.{_≡_};
-ghost use Prim.Native.Nat.{_*_};
 ghost use lib.ListN.{length, take};
 ghost use Rattle.xcf_tile.specs.Tile.{plainTile, encodedTile, tileIn, windowLimit};
 ghost use mathlib.Core.Bool.{not};
-ghost use Rattle.xcf_tile.specs.Answer.{within, usableTile, tileRefusal, Decoded};
+ghost use Rattle.xcf_tile.specs.Answer.{within, usableTile, decodeRefusal, Decoded};
 ghost use Rattle.xcf_tile.specs.Parts.{Sized, Gives, Usable};
 use crate::scatter::clear;
 use crate::stream::StreamEnd;
+use crate::stream::ended;
 use crate::stream::streams;
 
 #[repr(C)]
@@ -41,18 +41,10 @@ fn decode_plain(window: &[u8], n: usize, depth: usize, pixels: &mut [u8]) -> Str
     let size = pixels.len();
     if window.len() < size {
         clear(pixels);
-        return StreamEnd {
-            mark: 20,
-            at: 0,
-            operations: 0,
-        };
+        return ended(20, 0, 0);
     }
     bytes::copy(&window[..size], pixels);
-    StreamEnd {
-        mark: 0,
-        at: size,
-        operations: 0,
-    }
+    ended(0, size, 0)
 }
 
 fn decode(window: &[u8], n: usize, depth: usize, compression: u32, pixels: &mut [u8]) -> StreamEnd
@@ -93,7 +85,7 @@ pub fn usable_tile(width: u32, height: u32, depth: u32) -> bool
 
 // 14, 11, or 0 where the call is not refused.
 fn refusal(width: u32, height: u32, depth: u32, compression: u32, length: usize) -> u64
-    ensures { λ r. ⌜ (r ≡ tileRefusal width height depth compression length) × (r ≡ 0 → Usable width height depth compression length) ⌝ }
+    ensures { λ r. ⌜ (r ≡ decodeRefusal width height depth compression length) × (r ≡ 0 → Usable width height depth compression length) ⌝ }
 {
     if usable_tile(width, height, depth) {
         if 1 < compression {

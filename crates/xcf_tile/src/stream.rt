@@ -1,8 +1,6 @@
 // The streams of an encoded tile, decoded into its pixels.
 ghost use mathlib.Core.Path.{_≡_};
-ghost use Prim.Native.Nat.{_+_, _*_, _<_};
-ghost use lib.ListN.{length};
-ghost use Rattle.xcf_tile.specs.Parts.{Plane, Streamed, StreamedAll, Sized};
+ghost use Rattle.xcf_tile.specs.Parts.{endedAt, Plane, Streamed, StreamedAll, Sized};
 use crate::operation::OperationRead;
 use crate::operation::operation_at;
 use crate::scatter::put_copy;
@@ -13,6 +11,16 @@ pub struct StreamEnd {
     pub mark: u64,
     pub at: usize,
     pub operations: usize,
+}
+
+pub(crate) fn ended(mark: u64, at: usize, operations: usize) -> StreamEnd
+    ensures { λ r. ⌜ r ≡ endedAt mark at operations ⌝ }
+{
+    StreamEnd {
+        mark,
+        at,
+        operations,
+    }
 }
 
 // The stream of n bytes at `from`, put into the pixels at k and every `depth` bytes after it.
@@ -33,16 +41,8 @@ fn stream(
     let mut operations: usize = 0;
     while 0 < left {
         match operation_at(window, at, left) {
-            OperationRead::Short => return StreamEnd {
-                mark: 20,
-                at,
-                operations,
-            },
-            OperationRead::Over => return StreamEnd {
-                mark: 21,
-                at,
-                operations,
-            },
+            OperationRead::Short => return ended(20, at, operations),
+            OperationRead::Over => return ended(21, at, operations),
             OperationRead::Run { value, count, next } => {
                 to = put_run(pixels, to, depth, count, value);
                 at = next;
@@ -57,11 +57,7 @@ fn stream(
             }
         }
     }
-    StreamEnd {
-        mark: 0,
-        at,
-        operations,
-    }
+    ended(0, at, operations)
 }
 
 // A stream of n bytes for each byte of the pixel.
@@ -77,17 +73,9 @@ pub(crate) fn streams(window: &[u8], n: usize, depth: usize, pixels: &mut [u8]) 
         at = s.at;
         operations += s.operations;
         if s.mark != 0 {
-            return StreamEnd {
-                mark: s.mark,
-                at,
-                operations,
-            };
+            return ended(s.mark, at, operations);
         }
         k += 1;
     }
-    StreamEnd {
-        mark: 0,
-        at,
-        operations,
-    }
+    ended(0, at, operations)
 }

@@ -5,6 +5,7 @@ use libc::STDIN_FILENO;
 use libc::STDOUT_FILENO;
 use record::Record;
 use record::RecordRead;
+use xcf_encode::EncodeAnswer;
 
 // A number behind a space.
 fn print_next(n: u64) {
@@ -47,9 +48,8 @@ fn decode(r: Record, window: &[u8], lent: &mut [u8]) {
     io::write_all(STDOUT_FILENO, b"\n");
 }
 
-fn encode(r: Record, pixels: &[u8], lent: &mut [u8]) {
-    let a = xcf_encode::encode_tile(pixels, r.width, r.height, r.depth, lent);
-    io::write_all(STDOUT_FILENO, b"write");
+fn print_encoded(name: &[u8], a: EncodeAnswer, lent: &[u8]) {
+    io::write_all(STDOUT_FILENO, name);
     print_next(a.number);
     print_next(a.place);
     print_next(a.length);
@@ -57,13 +57,24 @@ fn encode(r: Record, pixels: &[u8], lent: &mut [u8]) {
     io::write_all(STDOUT_FILENO, b"\n");
 }
 
+fn encode(r: Record, pixels: &[u8], lent: &mut [u8]) {
+    let a = xcf_encode::encode_tile(pixels, r.width, r.height, r.depth, lent);
+    print_encoded(b"write", a, lent);
+}
+
+fn encode_stream(stream: &[u8], lent: &mut [u8]) {
+    let a = xcf_encode::encode_stream(stream, lent);
+    print_encoded(b"stream", a, lent);
+}
+
 // One call on a buffer of 0xAA bytes.
 fn run(r: Record, source: &[u8], lent: &mut [u8]) {
     fill(lent);
-    if r.encodes {
-        encode(r, source, lent);
-    } else {
-        decode(r, source, lent);
+    let kind = r.kind;
+    match kind {
+        0 => decode(r, source, lent),
+        1 => encode(r, source, lent),
+        _ => encode_stream(source, lent),
     }
 }
 

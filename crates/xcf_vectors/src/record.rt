@@ -1,9 +1,9 @@
-// A record of the input, numbers high byte first: kind (0 decode, 1 encode), width, height, depth and compression, a byte
-// each; the lengths of the source and of the buffer to lend, two bytes each; the source.
+// A record of the input, numbers high byte first: kind (0 decode a tile, 1 encode a tile, 2 encode a stream), width, height,
+// depth and compression, a byte each; the lengths of the source and of the buffer to lend, two bytes each; the source.
 
 // Where a record's source starts and ends, and the call to make with it.
 pub struct Record {
-    pub encodes: bool,
+    pub kind: u8,
     pub width: u32,
     pub height: u32,
     pub depth: u32,
@@ -41,7 +41,7 @@ pub(crate) fn read(input: &[u8], at: usize) -> RecordRead {
         return RecordRead::End;
     }
     RecordRead::Next(Record {
-        encodes: input[at] == 1,
+        kind: input[at],
         width: wide(input[at + 1]),
         height: wide(input[at + 2]),
         depth: wide(input[at + 3]),

@@ -9,13 +9,17 @@ use Rattle.xcf_tile.proofs.decode_plain.Tie as tie
 clear-requires : tie.Need-clear-requires
 clear-requires c κs = search needs
 
+ended-requires : tie.Need-ended-requires
+ended-requires c κs = search needs
+
 same-length : tie.Need-same-length
 same-length c = search needs
 
 returns : tie.Need-returns
 returns c =
-    let a = c .before .before .before .before .before .before .before .args in
-    rw (c .before .before .clear .ensures, c .before .before .before .before .before .before .before .pre .exact) (plain-short _ (a .n) (a .depth) (omega (arith, c .before .before .before .before .before .before .before .pre)))
+    let start = c .before .before .before .before .before .before .before .before in
+    rw (c .ended .ensures, c .before .before .before .clear .ensures, start .pre .exact)
+    (plain-short _ (start .args .n) (start .args .depth) (omega (arith, start .pre)))
 
 slice-aggregate-copy : tie.Need-slice-aggregate-copy
 slice-aggregate-copy c = simp length-take (omega arith)
@@ -23,22 +27,28 @@ slice-aggregate-copy c = simp length-take (omega arith)
 copy-requires : tie.Need-copy-requires
 copy-requires c κs = simp length-take (omega arith)
 
+ended-requires-2 : tie.Need-ended-requires-2
+ended-requires-2 c κs = search needs
+
 same-length-2 : tie.Need-same-length-2
 same-length-2 c = search needs
 
 returns-2 : tie.Need-returns-2
 returns-2 c =
-    let a = c .before .before .before .before .before .before .before .before .args in
-    rw (c .before .before .copy .ensures .1, copied (a .window .now) (a .pixels .now) (omega arith), c .before .before .before .before .before .before .before .before .pre .exact) (plain-whole _ (a .n) (a .depth) (omega (arith, c .before .before .before .before .before .before .before .before .pre)))
+    let start = c .before .before .before .before .before .before .before .before .before in
+    rw (c .ended2 .ensures, c .before .before .before .copy .ensures .1, copied (start .args .window .now) (start .args .pixels .now) (omega arith), start .pre .exact)
+    (plain-whole _ (start .args .n) (start .args .depth) (omega (arith, start .pre)))
 
 pub decode-plain-spec : {M : Type 1} → statement M
 decode-plain-spec =
     tie.close
     (tie.spec
     clear-requires
+    ended-requires
     same-length
     returns
     slice-aggregate-copy
     copy-requires
+    ended-requires-2
     same-length-2
     returns-2)

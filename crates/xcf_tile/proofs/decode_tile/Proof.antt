@@ -4,7 +4,7 @@ use native.Mathlib.Omega.{arith}
 use borrow.Author.Needs.{needs}
 use borrow.Author.Tests.{ne-eqb}
 use Rattle.xcf_tile.specs.Tile.{tileOf}
-use Rattle.xcf_tile.specs.Answer.{answerOf, pixelsOf}
+use Rattle.xcf_tile.specs.Answer.{decodeAnswer, decodePixels}
 use Rattle.xcf_tile.proofs.Sizes.{small}
 use Rattle.xcf_tile.proofs.decode_tile.Statement.{statement}
 use Rattle.xcf_tile.proofs.decode_tile.Tie as tie
@@ -13,7 +13,7 @@ refusal-requires : tie.Need-refusal-requires
 refusal-requires c κs = search needs
 
 returns : tie.Need-returns
-unfolding answerOf pixelsOf
+unfolding decodeAnswer decodePixels
 returns c = record {
   answer = simp (← c .before .refusal .ensures .0, ne-eqb _ _ (c .if1 .taken));
   pixels = simp (← c .before .refusal .ensures .0, ne-eqb _ _ (c .if1 .taken));
@@ -41,7 +41,7 @@ same-length : tie.Need-same-length
 same-length c = search needs
 
 returns-2 : tie.Need-returns-2
-unfolding tileOf answerOf pixelsOf
+unfolding tileOf decodeAnswer decodePixels
 returns-2 c =
     let z = sym (c .before .before .before .before .before .before .refusal .ensures .0) ∙ c .before .before .before .before .before .if1 .left in
     let g = rw (c .before .before .before .before .cut .ensures) at (c .before .before .decode .ensures) in

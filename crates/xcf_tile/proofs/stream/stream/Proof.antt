@@ -23,20 +23,26 @@ operation-at-requires c κs = search needs
 enum-told : tie.Need-enum-told Inv-loop μ-loop
 enum-told c = search needs
 
+ended-requires : tie.Need-ended-requires Inv-loop μ-loop
+ended-requires c κs = search needs
+
 same-length : tie.Need-same-length Inv-loop μ-loop
 same-length c = search needs
 
 returns : tie.Need-returns Inv-loop μ-loop
-returns c = going-short (c .before .before .before .before .loop .inv) (c .before .before .before .loop-test .taken) (c .before .before .operation-at .ensures) (c .enum-told .given .1)
+returns c = rw (c .ended .ensures) (going-short (c .before .before .before .before .before .loop .inv) (c .before .before .before .before .loop-test .taken) (c .before .before .before .operation-at .ensures) (c .before .enum-told .given .1))
 
 enum-told-2 : tie.Need-enum-told-2 Inv-loop μ-loop
 enum-told-2 c = search needs
+
+ended-requires-2 : tie.Need-ended-requires-2 Inv-loop μ-loop
+ended-requires-2 c κs = search needs
 
 same-length-2 : tie.Need-same-length-2 Inv-loop μ-loop
 same-length-2 c = search needs
 
 returns-2 : tie.Need-returns-2 Inv-loop μ-loop
-returns-2 c = going-over (c .before .before .before .before .loop .inv) (c .before .before .before .loop-test .taken) (c .before .before .operation-at .ensures) (c .enum-told2 .given .1)
+returns-2 c = rw (c .ended2 .ensures) (going-over (c .before .before .before .before .before .loop .inv) (c .before .before .before .before .loop-test .taken) (c .before .before .before .operation-at .ensures) (c .before .enum-told2 .given .1))
 
 enum-known-value : tie.Need-enum-known-value Inv-loop μ-loop
 enum-known-value c = search needs
@@ -96,11 +102,14 @@ loop-again-2 c =
     rw (c .before .before .put-copy .ensures .0, c .before .before .put-copy .ensures .1)
     (going-copy (c .before .before .before .before .before .before .before .before .before .loop .inv) (c .before .before .before .before .before .before .before .before .loop-test .taken) (c .before .before .before .before .before .before .before .operation-at .ensures) (c .before .before .before .before .before .from .given .1))
 
+ended-requires-3 : tie.Need-ended-requires-3 Inv-loop μ-loop
+ended-requires-3 c κs = search needs
+
 same-length-3 : tie.Need-same-length-3 Inv-loop μ-loop
 same-length-3 c = search needs
 
 returns-3 : tie.Need-returns-3 Inv-loop μ-loop
-returns-3 c = going-done (c .before .loop .inv) (omega arith)
+returns-3 c = rw (c .ended3 .ensures) (going-done (c .before .before .loop .inv) (omega arith))
 
 pub stream-spec : {M : Type 1} → statement M
 stream-spec =
@@ -111,9 +120,11 @@ stream-spec =
     loop-holds
     operation-at-requires
     enum-told
+    ended-requires
     same-length
     returns
     enum-told-2
+    ended-requires-2
     same-length-2
     returns-2
     enum-known-value
@@ -128,5 +139,6 @@ stream-spec =
     add-operations-2
     loop-less-2
     loop-again-2
+    ended-requires-3
     same-length-3
     returns-3)

@@ -22,11 +22,14 @@ stream-requires c κs = search needs
 add-operations : tie.Need-add-operations Inv-loop μ-loop
 add-operations c = search needs
 
+ended-requires : tie.Need-ended-requires Inv-loop μ-loop
+ended-requires c κs = search needs
+
 same-length : tie.Need-same-length Inv-loop μ-loop
 same-length c = search needs
 
 returns : tie.Need-returns Inv-loop μ-loop
-returns c = going-off (c .before .before .before .before .before .before .before .before .loop .inv) (c .before .before .before .before .before .before .before .loop-test .taken) _ _ (c .before .before .before .before .before .stream .ensures) (c .if1 .taken)
+returns c = rw (c .ended .ensures) (going-off (c .before .before .before .before .before .before .before .before .before .loop .inv) (c .before .before .before .before .before .before .before .before .loop-test .taken) _ _ (c .before .before .before .before .before .before .stream .ensures) (c .before .if1 .taken))
 
 add-k : tie.Need-add-k Inv-loop μ-loop
 add-k c = search needs
@@ -37,11 +40,17 @@ loop-less c = search needs
 loop-again : tie.Need-loop-again Inv-loop μ-loop
 loop-again c = going-on (c .before .before .before .before .before .before .before .before .loop .inv) (c .before .before .before .before .before .before .before .loop-test .taken) _ _ (c .before .before .before .before .before .stream .ensures) (c .if1 .left)
 
+ended-requires-2 : tie.Need-ended-requires-2 Inv-loop μ-loop
+ended-requires-2 c κs = search needs
+
 same-length-2 : tie.Need-same-length-2 Inv-loop μ-loop
 same-length-2 c = search needs
 
 returns-2 : tie.Need-returns-2 Inv-loop μ-loop
-returns-2 c = let z : c .before .loop .k ≡ c .before .before .before .before .args .depth = omega arith in all-done (rw z at (c .before .loop .inv))
+returns-2 c =
+    let l = c .before .before .loop in
+    let z : l .k ≡ c .before .before .before .before .before .args .depth = omega arith in
+    rw (c .ended2 .ensures) (all-done (rw z at (l .inv)))
 
 pub streams-spec : {M : Type 1} → statement M
 streams-spec =
@@ -52,10 +61,12 @@ streams-spec =
     loop-holds
     stream-requires
     add-operations
+    ended-requires
     same-length
     returns
     add-k
     loop-less
     loop-again
+    ended-requires-2
     same-length-2
     returns-2)
