@@ -10,7 +10,7 @@ use borrow.Author.Tests.{leb-false, le-leb}
 use lib.ListN.{length, getD, take, drop, length-append, length-drop}
 use lib.Dec.{leb}
 use Rattle.xcf_tile.proofs.Cases.{by-cases}
-use Rattle.xcf_encode.specs.Segment.{equalBytes, copiedBytes, runOf, copyOf, firstSegment, written, encodeStream}
+use Rattle.xcf_encode.specs.Segment.{equalBytes, copiedBytes, runOf, copyOf, written, encodeStream}
 use Rattle.xcf_encode.proofs.Segments.{first, first-run, first-copy, copied-length, equal-inside, copied-inside, encode-nil, encode-cons, by-length}
 
 run-size : (count value : ℕ) → 3 ≤ count → length (written (runOf count value)) < count

@@ -97,7 +97,7 @@ module _ (a h z : List ℕ) (left : ℕ) where
         getD-append-add,
         getD-append-seam,
         length-append,
-        lt-leb (length a + (length h + suc (length z))) (length a + length h) (omega arith),
+        le-ltb (length a + (length h + suc (length z))) (length a + length h + 1) (omega arith),
       )
 
   copy-op : (bytes : List ℕ) → length bytes ≤ left → headAt (a ++ (h ++ (bytes ++ z))) (length a) ≡ copyHead (length bytes) (length a + length h) → operationAt (a ++ (h ++ (bytes ++ z))) (length a) left ≡ copy (length a + length h) (length bytes) (length a + length h + length bytes)

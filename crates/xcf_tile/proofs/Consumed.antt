@@ -12,7 +12,7 @@ use borrow.Author.Tests.{ltb-true, ltb-false, lt-leb, le-ltb, eqb-true, eqb-fals
 use lib.ListN.{length, getD, take, drop, replicate, length-take}
 use lib.Seq.{getD-take, take-take, take-nil}
 use lib.Dec.{ltb, leb, eqb}
-use Rattle.xcf_tile.specs.Operation.{Head, runHead, copyHead, cut, headAt, headOf, pair, Operation, run, copy, short, over, operationAt, operationOf}
+use Rattle.xcf_tile.specs.Operation.{Head, runHead, copyHead, cut, headAt, headOf, Operation, run, copy, short, over, operationAt, operationOf}
 use Rattle.xcf_tile.specs.Stream.{Stream, gives, streamFrom, streamWithin, streamAt}
 use Rattle.xcf_tile.specs.Tile.{Streams, streamsAt, Tile, plainTile, encodedTile, tileIn, windowLimit, tileOf}
 use Rattle.xcf_tile.proofs.Cases.{by-cases}
@@ -97,8 +97,8 @@ module _ (ws vs : List ℕ) (m : ℕ) (same : take m ws ≡ take m vs) (long : m
   operation-of-same left cut = λ b. absurd b
   operation-of-same left (runHead count body) =
       by-cases (OperationSame left (runHead count body)) (ltb left count) _ _ (λ _. absurd)
-      (λ e. by-cases (OperationSame left (runHead count body)) (leb (length ws) body) _ _ (λ _. absurd)
-      (λ _ b. (omega arith, simp (e, lt-leb (length vs) body (omega arith), byte-same body (omega arith)))))
+      (λ e. by-cases (OperationSame left (runHead count body)) (ltb (length ws) (body + 1)) _ _ (λ _. absurd)
+      (λ _ b. (omega arith, simp (e, le-ltb (length vs) (body + 1) (omega arith), byte-same body (omega arith)))))
   operation-of-same left (copyHead count body) =
       by-cases (OperationSame left (copyHead count body)) (ltb left count) _ _ (λ _. absurd)
       (λ e. by-cases (OperationSame left (copyHead count body)) (ltb (length ws) (body + count)) _ _ (λ _. absurd)

@@ -1,5 +1,6 @@
 pub mod Cases
 pub mod Room
+pub mod Faults
 pub mod Sizes
 pub mod Scattering
 pub mod StreamLaws

@@ -8,9 +8,6 @@ use borrow.Author.Tests.{lt-ltb, le-ltb}
 use lib.Dec.{ltb}
 
 module _ (size at n : ℕ) where
-  pub starts-behind : size < at → ltb size (at + n) ≡ true
-  starts-behind h = lt-ltb size (at + n) (omega arith)
-
   pub ends-behind : at ≤ size → size - at < n → ltb size (at + n) ≡ true
   ends-behind h l = lt-ltb size (at + n) (omega arith)
 

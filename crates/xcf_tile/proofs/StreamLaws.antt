@@ -7,7 +7,7 @@ use mathlib.Core.List.{List}
 use mathlib.Core.Bool.{cond}
 use Prim.Native.Nat.{ℕ, zero, suc, _+_, _-_, _≤_, _<_}
 use native.Mathlib.Omega.{arith}
-use borrow.Author.Tests.{ltb-false, leb-false, le-leb, lt-ltb}
+use borrow.Author.Tests.{ltb-false, le-leb, lt-ltb}
 use lib.ListN.{length, replicate, take, drop, getD}
 use lib.Dec.{ltb, leb, eqb}
 use Rattle.xcf_tile.specs.Operation.{Head, runHead, copyHead, cut, headAt, headOf, Operation, run, copy, short, over, operationAt, operationOf}
@@ -41,8 +41,8 @@ unfolding operationOf
 sound-of ws at left cut a = tt
 sound-of ws at left (runHead count body) a =
     by-cases (Sound ws at left) (ltb left count) _ _ (λ _. tt)
-    (λ o. by-cases (Sound ws at left) (leb (length ws) body) _ _ (λ _. tt)
-    (λ d. omega (arith, ltb-false, leb-false)))
+    (λ o. by-cases (Sound ws at left) (ltb (length ws) (body + 1)) _ _ (λ _. tt)
+    (λ d. omega (arith, ltb-false)))
 sound-of ws at left (copyHead count body) a =
     by-cases (Sound ws at left) (ltb left count) _ _ (λ _. tt)
     (λ o. by-cases (Sound ws at left) (ltb (length ws) (body + count)) _ _ (λ _. tt)

@@ -36,13 +36,15 @@ pub data Operation : Type 0 where
   short : Operation
   over : Operation
 
--- the operation of a head in a stream that still takes `left` bytes
+-- an operation that gives `count` bytes, of which the stream still takes `left`, and has `size` bytes of data at `body`
+abbrev pub checked : List ℕ → ℕ → ℕ → ℕ → ℕ → Operation → Operation
+checked ws left count body size o = cond (ltb left count) over (cond (ltb (length ws) (body + size)) short o)
+
+-- the operation of a head: a run's data is its value, a copy's the bytes copied
 unfoldable pub operationOf : List ℕ → ℕ → Head → Operation
 operationOf ws left cut = short
-operationOf ws left (runHead count body) =
-    cond (ltb left count) over (cond (leb (length ws) body) short (run (getD ws body 0) count (body + 1)))
-operationOf ws left (copyHead count body) =
-    cond (ltb left count) over (cond (ltb (length ws) (body + count)) short (copy body count (body + count)))
+operationOf ws left (runHead count body) = checked ws left count body 1 (run (getD ws body 0) count (body + 1))
+operationOf ws left (copyHead count body) = checked ws left count body count (copy body count (body + count))
 
 unfoldable pub operationAt : List ℕ → ℕ → ℕ → Operation
 operationAt ws at left = operationOf ws left (headAt ws at)

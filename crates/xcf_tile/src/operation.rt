@@ -1,8 +1,9 @@
 // One operation of an encoded stream.
 ghost use mathlib.Core.Path.{_≡_};
-ghost use Prim.Native.Nat.{_<_};
-ghost use Rattle.xcf_tile.specs.Operation.{copyHead, headAt, operationOf, operationAt};
-ghost use Rattle.xcf_tile.specs.Parts.{headRead, operationRead};
+ghost use Prim.Native.Nat.{_≤_, _<_};
+ghost use lib.ListN.{length};
+ghost use Rattle.xcf_tile.specs.Operation.{runHead, copyHead, headAt, operationOf, operationAt};
+ghost use Rattle.xcf_tile.specs.Parts.{headRead, HeadInside, Checked, operationRead};
 
 // An opcode with its length bytes: how many bytes the operation gives, and where its data starts.
 pub enum HeadRead {
@@ -27,6 +28,13 @@ pub enum OperationRead {
     Over,
 }
 
+// What stands in the way of an operation, if anything.
+pub enum Fault {
+    Over,
+    Short,
+    None,
+}
+
 fn wide(x: u8) -> usize
     ensures { λ r. ⌜ (r ≡ x) × (r < 256) ⌝ }
 {
@@ -34,7 +42,7 @@ fn wide(x: u8) -> usize
 }
 
 fn head_at(window: &[u8], at: usize) -> HeadRead
-    ensures { λ r. ⌜ headRead r ≡ headAt (now (window .entry)) at ⌝ }
+    ensures { λ r. ⌜ (headRead r ≡ headAt (now (window .entry)) at) × HeadInside (now (window .entry)) r ⌝ }
 {
     if window.len() <= at {
         return HeadRead::Cut;
@@ -69,23 +77,47 @@ fn head_at(window: &[u8], at: usize) -> HeadRead
     }
 }
 
-// A copy of `count` bytes from `body` on.
-fn copy_operation(window: &[u8], left: usize, count: usize, body: usize) -> OperationRead
-    ensures { λ r. ⌜ operationRead r ≡ operationOf (now (window .entry)) left (copyHead count body) ⌝ }
+// Whether the stream takes `count` more bytes, and then whether `size` bytes of data stand at `body`.
+fn find_fault(window: &[u8], left: usize, count: usize, body: usize, size: usize) -> Fault
+    requires { ⌜ body ≤ length (now window) ⌝ }
+    ensures { λ r. ⌜ Checked (now (window .entry)) left count body size r ⌝ }
 {
     if left < count {
-        return OperationRead::Over;
+        return Fault::Over;
     }
-    if window.len() < body {
-        return OperationRead::Short;
+    if window.len() - body < size {
+        return Fault::Short;
     }
-    if window.len() - body < count {
-        return OperationRead::Short;
+    Fault::None
+}
+
+fn run_operation(window: &[u8], left: usize, count: usize, body: usize) -> OperationRead
+    requires { ⌜ body ≤ length (now window) ⌝ }
+    ensures { λ r. ⌜ operationRead r ≡ operationOf (now (window .entry)) left (runHead count body) ⌝ }
+{
+    match find_fault(window, left, count, body, 1) {
+        Fault::Over => OperationRead::Over,
+        Fault::Short => OperationRead::Short,
+        Fault::None => OperationRead::Run {
+            value: window[body],
+            count,
+            next: body + 1,
+        },
     }
-    OperationRead::Copy {
-        from: body,
-        count,
-        next: body + count,
+}
+
+fn copy_operation(window: &[u8], left: usize, count: usize, body: usize) -> OperationRead
+    requires { ⌜ body ≤ length (now window) ⌝ }
+    ensures { λ r. ⌜ operationRead r ≡ operationOf (now (window .entry)) left (copyHead count body) ⌝ }
+{
+    match find_fault(window, left, count, body, count) {
+        Fault::Over => OperationRead::Over,
+        Fault::Short => OperationRead::Short,
+        Fault::None => OperationRead::Copy {
+            from: body,
+            count,
+            next: body + count,
+        },
     }
 }
 
@@ -94,19 +126,7 @@ pub(crate) fn operation_at(window: &[u8], at: usize, left: usize) -> OperationRe
 {
     match head_at(window, at) {
         HeadRead::Cut => OperationRead::Short,
-        HeadRead::Run { count, body } => {
-            if left < count {
-                return OperationRead::Over;
-            }
-            if window.len() <= body {
-                return OperationRead::Short;
-            }
-            OperationRead::Run {
-                value: window[body],
-                count,
-                next: body + 1,
-            }
-        }
+        HeadRead::Run { count, body } => run_operation(window, left, count, body),
         HeadRead::Copy { count, body } => copy_operation(window, left, count, body),
     }
 }

@@ -1,32 +1,62 @@
--- `copy_operation` meets its contract: overrun first, then the data's start and end, which are one test in the definition.
-use borrow.Author.Needs.{needs}
-use borrow.Author.Tests.{le-ltb, lt-ltb}
+-- `copy_operation` meets its contract: what was found is the definition's tests.
+use Prim.Native.Nat.{_+_}
+use native.Mathlib.Omega.{arith}
+use borrow.Author.Tests.{ltb-false}
+use lib.ListN.{length}
 use Rattle.xcf_tile.specs.Operation.{operationOf}
-use Rattle.xcf_tile.proofs.Room.{starts-behind, ends-behind, lies-within}
+use Rattle.xcf_tile.proofs.Faults.{found}
+use borrow.Author.Needs.{needs}
 use Rattle.xcf_tile.proofs.operation.copy_operation.Statement.{statement}
 use Rattle.xcf_tile.proofs.operation.copy_operation.Tie as tie
 
+find-fault-requires : tie.Need-find-fault-requires
+find-fault-requires c κs = search needs
+
+enum-told : tie.Need-enum-told
+enum-told c = search needs
+
+enum-told-2 : tie.Need-enum-told-2
+enum-told-2 c = search needs
+
+enum-told-3 : tie.Need-enum-told-3
+enum-told-3 c = search needs
+
+add-t7 : tie.Need-add-t7
+add-t7 c =
+    let a = c .before .before .before .before .args in
+    let f = found (a .window .now) (a .left) (a .count) (a .body) (a .count) (c .before .before .find-fault .ensures) (c .enum-told3 .given .1) in
+    omega (arith, ltb-false (length (a .window .now)) (a .body + a .count) (f .1))
+
 returns : tie.Need-returns
 unfolding operationOf
-returns c = simp (lt-ltb _ _ (c .if1 .taken))
+returns c =
+    let a = c .before .before .before .before .args in
+    let f = found (a .window .now) (a .left) (a .count) (a .body) (a .count) (c .before .before .find-fault .ensures) (c .enum-told .given .1) in
+    simp f
 
 returns-2 : tie.Need-returns-2
 unfolding operationOf
-returns-2 c = simp (le-ltb _ _ (c .before .if1 .left), starts-behind _ _ (c .before .before .args .count) (c .if2 .taken))
-
-sub-if3 : tie.Need-sub-if3
-sub-if3 c = search needs
+returns-2 c =
+    let a = c .before .before .before .before .args in
+    let f = found (a .window .now) (a .left) (a .count) (a .body) (a .count) (c .before .before .find-fault .ensures) (c .enum-told2 .given .1) in
+    simp (f .0, f .1)
 
 returns-3 : tie.Need-returns-3
 unfolding operationOf
-returns-3 c = simp (le-ltb _ _ (c .before .before .if1 .left), ends-behind _ _ _ (c .before .if2 .left) (c .if3 .taken))
-
-add-t6 : tie.Need-add-t6
-add-t6 c = search needs
-
-returns-4 : tie.Need-returns-4
-unfolding operationOf
-returns-4 c = simp (le-ltb _ _ (c .before .before .if1 .left), lies-within _ _ _ (c .before .if2 .left) (c .if3 .left))
+returns-3 c =
+    let a = c .before .before .before .before .args in
+    let f = found (a .window .now) (a .left) (a .count) (a .body) (a .count) (c .before .before .find-fault .ensures) (c .enum-told3 .given .1) in
+    simp (f .0, f .1)
 
 pub copy-operation-spec : {M : Type 1} → statement M
-copy-operation-spec = tie.close (tie.spec returns returns-2 sub-if3 returns-3 add-t6 returns-4)
+copy-operation-spec =
+    tie.close
+    (tie.spec
+    find-fault-requires
+    enum-told
+    enum-told-2
+    enum-told-3
+    add-t7
+    returns
+    returns-2
+    returns-3)

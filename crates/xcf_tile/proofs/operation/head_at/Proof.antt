@@ -10,7 +10,7 @@ use Rattle.xcf_tile.proofs.operation.head_at.Tie as tie
 
 returns : tie.Need-returns
 unfolding headAt headOf
-returns c = simp (le-leb _ _ (c .if1 .taken))
+returns c = (simp (le-leb _ _ (c .if1 .taken)), tt)
 
 shared-slice-read-wide : tie.Need-shared-slice-read-wide
 shared-slice-read-wide c = search needs
@@ -26,7 +26,7 @@ add-t10 c = search needs
 
 returns-2 : tie.Need-returns-2
 unfolding headAt headOf
-returns-2 c = simp (lt-leb _ _ (c .before .before .before .if1 .left), ← c .before .wide .ensures .0, lt-ltb _ _ (c .if2 .taken))
+returns-2 c = (simp (lt-leb _ _ (c .before .before .before .if1 .left), ← c .before .wide .ensures .0, lt-ltb _ _ (c .if2 .taken)), omega arith)
 
 sub-t11 : tie.Need-sub-t11
 sub-t11 c = search needs
@@ -36,15 +36,14 @@ add-t12 c = search needs
 
 returns-3 : tie.Need-returns-3
 unfolding headAt headOf
-returns-3 c = simp (lt-leb _ _ (c .before .before .before .before .if1 .left), ← c .before .before .wide .ensures .0, le-ltb _ _ (c .before .if2 .left), lt-ltb _ _ (c .if3 .taken))
+returns-3 c = (simp (lt-leb _ _ (c .before .before .before .before .if1 .left), ← c .before .before .wide .ensures .0, le-ltb _ _ (c .before .if2 .left), lt-ltb _ _ (c .if3 .taken)), omega arith)
 
 sub-if4 : tie.Need-sub-if4
 sub-if4 c = search needs
 
 returns-4 : tie.Need-returns-4
 unfolding headAt headOf
-returns-4 c =
-    simp (lt-leb _ _ (c .before .before .before .before .before .if1 .left), ← c .before .before .before .wide .ensures .0, le-ltb _ _ (c .before .before .if2 .left), le-ltb _ _ (c .before .if3 .left), ends-behind _ _ _ (omega arith) (c .if4 .taken))
+returns-4 c = (simp (lt-leb _ _ (c .before .before .before .before .before .if1 .left), ← c .before .before .before .wide .ensures .0, le-ltb _ _ (c .before .before .if2 .left), le-ltb _ _ (c .before .if3 .left), ends-behind _ _ _ (omega arith) (c .if4 .taken)), tt)
 
 add-wide : tie.Need-add-wide
 add-wide c = search needs
@@ -78,13 +77,11 @@ add-t22 c = search needs
 
 returns-5 : tie.Need-returns-5
 unfolding headAt headOf
-returns-5 c =
-    simp (lt-leb _ _ (c .before .before .before .before .before .before .before .before .before .before .if1 .left), ← c .before .before .before .before .before .before .before .before .wide .ensures .0, le-ltb _ _ (c .before .before .before .before .before .before .before .if2 .left), le-ltb _ _ (c .before .before .before .before .before .before .if3 .left), lies-within _ _ _ (omega arith) (c .before .before .before .before .before .if4 .left), eq-eqb _ _ (c .if5 .taken), add-assoc, c .before .wide3 .ensures .0, c .before .before .before .wide2 .ensures .0)
+returns-5 c = (simp (lt-leb _ _ (c .before .before .before .before .before .before .before .before .before .before .if1 .left), ← c .before .before .before .before .before .before .before .before .wide .ensures .0, le-ltb _ _ (c .before .before .before .before .before .before .before .if2 .left), le-ltb _ _ (c .before .before .before .before .before .before .if3 .left), lies-within _ _ _ (omega arith) (c .before .before .before .before .before .if4 .left), eq-eqb _ _ (c .if5 .taken), add-assoc, c .before .wide3 .ensures .0, c .before .before .before .wide2 .ensures .0), omega arith)
 
 returns-6 : tie.Need-returns-6
 unfolding headAt headOf
-returns-6 c =
-    simp (lt-leb _ _ (c .before .before .before .before .before .before .before .before .before .before .if1 .left), ← c .before .before .before .before .before .before .before .before .wide .ensures .0, le-ltb _ _ (c .before .before .before .before .before .before .before .if2 .left), le-ltb _ _ (c .before .before .before .before .before .before .if3 .left), lies-within _ _ _ (omega arith) (c .before .before .before .before .before .if4 .left), ne-eqb _ _ (c .if5 .left), add-assoc, c .before .wide3 .ensures .0, c .before .before .before .wide2 .ensures .0)
+returns-6 c = (simp (lt-leb _ _ (c .before .before .before .before .before .before .before .before .before .before .if1 .left), ← c .before .before .before .before .before .before .before .before .wide .ensures .0, le-ltb _ _ (c .before .before .before .before .before .before .before .if2 .left), le-ltb _ _ (c .before .before .before .before .before .before .if3 .left), lies-within _ _ _ (omega arith) (c .before .before .before .before .before .if4 .left), ne-eqb _ _ (c .if5 .left), add-assoc, c .before .wide3 .ensures .0, c .before .before .before .wide2 .ensures .0), omega arith)
 
 pub head-at-spec : {M : Type 1} → statement M
 head-at-spec =

@@ -2,7 +2,7 @@
 use Rattle.xcf_tile.proofs.scatter.copy.Statement.{statement}
 use Rattle.xcf_tile.proofs.scatter.copy.Tie as tie
 use mathlib.Core.Path.{_≡_, refl, _∙_}
-use Prim.Native.Nat.{_+_, _*_, _-_, _≤_, _<_}
+use Prim.Native.Nat.{_+_, _*_, _≤_, _<_}
 use native.Mathlib.Nat.{mul-zero}
 use native.Mathlib.Omega.{arith}
 use lib.ListN.{length, take, drop, length-set}

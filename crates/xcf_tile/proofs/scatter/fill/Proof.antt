@@ -2,7 +2,7 @@
 use Rattle.xcf_tile.proofs.scatter.fill.Statement.{statement}
 use Rattle.xcf_tile.proofs.scatter.fill.Tie as tie
 use mathlib.Core.Path.{_≡_, refl, _∙_}
-use Prim.Native.Nat.{_+_, _*_, _-_}
+use Prim.Native.Nat.{_+_, _*_}
 use Rattle.xcf_tile.proofs.Scattering.{one-less, scatter-value}
 use native.Mathlib.Nat.{mul-zero}
 use native.Mathlib.Omega.{arith}
