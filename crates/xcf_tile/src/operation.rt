@@ -82,10 +82,11 @@ fn find_fault(window: &[u8], left: usize, count: usize, body: usize, size: usize
     requires { ⌜ body ≤ length (now window) ⌝ }
     ensures { λ r. ⌜ Checked (now (window .entry)) left count body size r ⌝ }
 {
+    let rest = window.len() - body;
     if left < count {
         return Fault::Over;
     }
-    if window.len() - body < size {
+    if rest < size {
         return Fault::Short;
     }
     Fault::None

@@ -5,11 +5,11 @@ use borrow.Author.Needs.{needs}
 use Rattle.xcf_tile.proofs.operation.find_fault.Statement.{statement}
 use Rattle.xcf_tile.proofs.operation.find_fault.Tie as tie
 
+sub-rest : tie.Need-sub-rest
+sub-rest c = search needs
+
 returns : tie.Need-returns
 returns c = lt-ltb _ _ (c .if1 .taken)
-
-sub-if2 : tie.Need-sub-if2
-sub-if2 c = search needs
 
 returns-2 : tie.Need-returns-2
 returns-2 c = (le-ltb _ _ (c .before .if1 .left), ends-behind _ _ _ (c .before .before .pre) (c .if2 .taken))
@@ -18,4 +18,4 @@ returns-3 : tie.Need-returns-3
 returns-3 c = (le-ltb _ _ (c .before .if1 .left), lies-within _ _ _ (c .before .before .pre) (c .if2 .left))
 
 pub find-fault-spec : {M : Type 1} → statement M
-find-fault-spec = tie.close (tie.spec returns sub-if2 returns-2 returns-3)
+find-fault-spec = tie.close (tie.spec sub-rest returns returns-2 returns-3)
