@@ -28,7 +28,7 @@ fn decode_encoded(window: &[u8], n: usize, depth: usize, pixels: &mut [u8]) -> S
     ensures { λ r. ⌜ Gives (encodedTile (now (window .entry)) n depth) r (now (pixels .exit)) ⌝ }
 {
     let end = streams(window, n, depth, pixels);
-    if end.mark != 0 {
+    if 0 < end.mark {
         clear(pixels);
     }
     end

@@ -22,13 +22,13 @@ returns c =
     let s = c .before .before .before .before .before .before .before .before .streams in
     let start = c .before .before .before .before .before .before .before .before .before .before .before .before in
     let z : length (s .last .1 .1 .1 .0) ≡ start .args .n * start .args .depth = omega (arith, start .pre) in
-    rw (c .before .before .clear .ensures, z) (encoded-bad (s .ensures) (c .before .before .before .before .if1 .taken))
+    rw (c .before .before .clear .ensures, z) (encoded-bad (s .ensures) (λ z. omega arith))
 
 same-length-2 : tie.Need-same-length-2
 same-length-2 c = search needs
 
 returns-2 : tie.Need-returns-2
-returns-2 c = encoded-good (c .before .before .before .before .streams .ensures) (c .before .before .before .before .before .before .before .before .pre .exact) (c .if1 .left)
+returns-2 c = encoded-good (c .before .before .before .before .streams .ensures) (c .before .before .before .before .before .before .before .before .pre .exact) (omega arith)
 
 pub decode-encoded-spec : {M : Type 1} → statement M
 decode-encoded-spec =
