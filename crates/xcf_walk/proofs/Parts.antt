@@ -1,0 +1,44 @@
+-- The bytes of a part, and the word that four of them spell.
+-- Assumes nothing.
+use Prim.Native.Nat.{ℕ, zero, suc, _+_, _-_, _*_, _≤_, _<_, min}
+use mathlib.Core.Path.{_≡_, refl, sym, _∙_, ap}
+use mathlib.Core.List.{List, [], _∷_, _++_}
+use native.Mathlib.Nat.{add-zero}
+use native.Mathlib.Omega.{arith}
+use lib.ListN.{length, take, drop, getD, length-take, length-drop}
+use lib.Seq.{getD-take, getD-drop, drop-cons}
+use Rattle.xcf_walk.specs.Walk.{part}
+use Rattle.xcf_walk.specs.Fields.{spelt}
+
+pub part-at : (f : List ℕ) (at n i : ℕ) → i < n → getD (part f at n) i 0 ≡ getD f (at + i) 0
+part-at f at n i h = rw (getD-take, getD-drop)
+
+-- past a list's end every byte counts as 0
+pub getD-beyond : (l : List ℕ) (i : ℕ) → length l ≤ i → getD l i 0 ≡ 0
+getD-beyond [] i h = refl
+getD-beyond (x ∷ l) zero h = absurd (omega arith)
+getD-beyond (x ∷ l) (suc i) h = getD-beyond l i (omega arith)
+
+-- the last of n bytes, where it lies past the file's end or there is none
+pub part-last-none : (f : List ℕ) (at n : ℕ) → min n (length f - at) ≤ n - 1 → getD (part f at n) (n - 1) 0 ≡ 0
+part-last-none f at n h = getD-beyond (part f at n) (n - 1) (simp (length-take, length-drop) (omega arith))
+
+pub part-length : (f : List ℕ) (at n : ℕ) → at + n ≤ length f → length (part f at n) ≡ n
+part-length f at n h = simp (length-take, length-drop) (omega arith)
+
+-- a part is its first byte and the part behind it
+pub part-cons : (f : List ℕ) (at n : ℕ) → at < length f → part f at (suc n) ≡ getD f at 0 ∷ part f (at + 1) n
+part-cons f at n h = rw (drop-cons f at 0 h, ← (let e : suc at ≡ at + 1 = omega arith in e))
+
+pub spelt-part : (f : List ℕ) (at : ℕ) → at + 4 ≤ length f
+    → spelt 0 (part f at 4) ≡ getD f at 0 * 16777216 + getD f (at + 1) 0 * 65536 + getD f (at + 2) 0 * 256 + getD f (at + 3) 0
+unfolding spelt
+spelt-part f at h =
+    rw (
+      part-cons f at 3 (omega arith),
+      part-cons f (at + 1) 2 (omega arith),
+      part-cons f (at + 1 + 1) 1 (omega arith),
+      part-cons f (at + 1 + 1 + 1) 0 (omega arith),
+      (let e : at + 1 + 1 ≡ at + 2 = omega arith in e),
+      (let e : at + 2 + 1 ≡ at + 3 = omega arith in e),
+    ) (omega arith)

@@ -1,0 +1,52 @@
+use mathlib.Core.Path.{refl}
+use native.Mathlib.Omega.{arith}
+use Rattle.xcf_walk.specs.Fields.{string}
+use Rattle.xcf_walk.proofs.Resume.{then, then-here, ends, by-skip, by-check, reads-live, reads-none}
+use borrow.Author.Needs.{needs}
+use Rattle.xcf_walk.proofs.cursor.Cursor.string.Statement.{statement}
+use Rattle.xcf_walk.proofs.cursor.Cursor.string.Tie as tie
+
+word-requires : tie.Need-word-requires
+word-requires c κs = search needs
+
+cast-size : tie.Need-cast-size
+cast-size c = search needs
+
+skip-requires : tie.Need-skip-requires
+skip-requires c κs = search needs
+
+last-is-zero-requires : tie.Need-last-is-zero-requires
+last-is-zero-requires c κs = search needs
+
+check-requires : tie.Need-check-requires
+check-requires c κs = search needs
+
+returns : tie.Need-returns
+unfolding string
+returns c =
+    reads-none (c .if1 .taken)
+    (then-here _ _ (λ _. refl) (then _ (c .before .before .before .before .before .before .word .ensures .leads) (then-here _ _ (λ _. refl) (then _ (by-skip _ _ _ (c .before .before .before .before .skip .ensures))
+    (then _ (by-check _ _ _ _ (omega arith) (c .before .before .before .last-is-zero .ensures) (c .before .before .check .ensures)) ends)))))
+
+less-one-requires : tie.Need-less-one-requires
+less-one-requires c κs = search needs
+
+returns-2 : tie.Need-returns-2
+unfolding string
+returns-2 c =
+    reads-live (c .before .if1 .left)
+    (then-here _ _ (λ _. refl) (then _ (c .before .before .before .before .before .before .before .word .ensures .leads) (then-here _ _ (λ _. refl) (then _ (by-skip _ _ _ (c .before .before .before .before .before .skip .ensures))
+    (then _ (by-check _ _ _ _ (omega arith) (c .before .before .before .before .last-is-zero .ensures) (c .before .before .before .check .ensures)) (rw (c .less-one .ensures) ends))))))
+
+pub string-spec : {M : Type 1} → statement M
+string-spec =
+    tie.close
+    (tie.spec
+    word-requires
+    cast-size
+    skip-requires
+    last-is-zero-requires
+    check-requires
+    returns
+    less-one-requires
+    returns-2)

@@ -1,0 +1,32 @@
+-- The fields that every structure is made of.
+use Prim.Native.Nat.{ℕ, _+_, _*_, _-_}
+use mathlib.Core.List.{List, [], _∷_}
+use lib.ListN.{getD}
+use lib.Dec.{eqb}
+use Rattle.xcf_walk.specs.declared.cursor.Name.{Name}
+use Rattle.xcf_walk.specs.Walk.{Walk, done, bytes, here, must, _>>=_, _>>_}
+
+-- the number that bytes spell behind a number n, the high byte first
+unfoldable pub spelt : ℕ → List ℕ → ℕ
+spelt n [] = n
+spelt n (b ∷ bs) = spelt (n * 256 + b) bs
+
+-- a number of so many bytes
+unfoldable pub number : ℕ → Walk ℕ
+number size = do
+  b ← bytes size
+  done (spelt 0 b)
+
+-- words are 32 bits
+unfoldable pub word : Walk ℕ
+word = number 4
+
+-- a length word and so many bytes, the last of them zero and not part of the name; of no bytes the last counts as zero
+unfoldable pub string : Walk Name
+string = do
+  lengthAt ← here
+  n ← word
+  place ← here
+  b ← bytes n
+  must (eqb (getD b (n - 1) 0) 0) 12 lengthAt
+  done (record { place = place; length = n - 1 })

@@ -1,0 +1,170 @@
+// A cursor by value: its methods read a word or a string, and hand the moved cursor back.
+ghost use mathlib.Core.Path.{_≡_};
+ghost use Prim.Native.Nat.{_+_, _-_, _≤_};
+ghost use lib.ListN.{length, getD};
+ghost use lib.Dec.{eqb};
+ghost use Rattle.xcf_walk.specs.Walk.{part};
+ghost use Rattle.xcf_walk.specs.Fields.{spelt, word, string};
+ghost use Rattle.xcf_walk.specs.Cursor.{live, checked, jumped, skipped, Reads, noName};
+
+// A place in a file while the number is 0; else the first fault's number and place, which every further step keeps.
+pub struct Cursor {
+    pub at: usize,
+    pub number: u32,
+}
+
+// Beside a refusal the value is 0.
+pub struct WordRead {
+    pub value: u32,
+    pub cursor: Cursor,
+}
+
+// The place of a name's bytes, and their number.
+pub struct Name {
+    pub place: usize,
+    pub length: usize,
+}
+
+pub struct NameRead {
+    pub name: Name,
+    pub cursor: Cursor,
+}
+
+fn wide(b: u8) -> u32
+    ensures { λ r. ⌜ (r ≡ b) × (r ≤ 255) ⌝ }
+{
+    b as u32
+}
+
+fn word_at(file: &[u8], at: usize) -> u32
+    requires { ⌜ at + 4 ≤ length (now file) ⌝ }
+    ensures { λ r. ⌜ r ≡ spelt 0 (part (now (file .entry)) at 4) ⌝ }
+{
+    wide(file[at]) * 16777216
+        + wide(file[at + 1]) * 65536
+        + wide(file[at + 2]) * 256
+        + wide(file[at + 3])
+}
+
+// Whether the last of n bytes is zero; of no bytes, and past the file's end, it counts as zero.
+fn last_is_zero(file: &[u8], at: usize, n: usize) -> bool
+    ensures { λ r. ⌜ r ≡ eqb (getD (part (now (file .entry)) at n) (n - 1) 0) 0 ⌝ }
+{
+    if n == 0 {
+        return true;
+    }
+    let last = n - 1;
+    if file.len() <= at {
+        return true;
+    }
+    if file.len() - at <= last {
+        return true;
+    }
+    file[at + last] == 0
+}
+
+fn less_one(n: usize) -> usize
+    ensures { λ r. ⌜ r ≡ n - 1 ⌝ }
+{
+    if n == 0 { 0 } else { n - 1 }
+}
+
+// The walk from a place on.
+pub fn start(at: usize) -> Cursor
+    ensures { λ r. ⌜ r ≡ record { at = at; number = 0 } ⌝ }
+{
+    Cursor { at, number: 0 }
+}
+
+impl Cursor {
+    // The place, or 0 after a refusal.
+    pub fn place(self) -> usize
+        ensures { λ r. ⌜ r ≡ live self (self .at) 0 ⌝ }
+    {
+        if self.number == 0 { self.at } else { 0 }
+    }
+
+    // Refused with this number and place unless the test holds.
+    pub fn check(self, test: bool, number: u32, place: usize) -> Cursor
+        ensures { λ r. ⌜ r ≡ checked self test number place ⌝ }
+    {
+        if self.number != 0 {
+            return self;
+        }
+        if test {
+            return self;
+        }
+        Cursor { at: place, number }
+    }
+
+    pub fn jump(self, to: usize) -> Cursor
+        ensures { λ r. ⌜ r ≡ jumped self to ⌝ }
+    {
+        if self.number != 0 {
+            return self;
+        }
+        Cursor { at: to, number: 0 }
+    }
+
+    // Passes over n bytes.
+    pub fn skip(self, file: &[u8], n: usize) -> Cursor
+        ensures { λ r. ⌜ r ≡ skipped self (now (file .entry)) n ⌝ }
+    {
+        if self.number != 0 {
+            return self;
+        }
+        let at = self.at;
+        if file.len() < at {
+            return Cursor { at, number: 1 };
+        }
+        if file.len() - at < n {
+            return Cursor { at, number: 1 };
+        }
+        Cursor {
+            at: at + n,
+            number: 0,
+        }
+    }
+
+    pub fn word(self, file: &[u8]) -> WordRead
+        ensures { λ r. ⌜ Reads self word (now (file .entry)) 0 (r .cursor) (r .value) ⌝ }
+    {
+        let next = self.skip(file, 4);
+        if next.number != 0 {
+            return WordRead {
+                value: 0,
+                cursor: next,
+            };
+        }
+        WordRead {
+            value: word_at(file, self.at),
+            cursor: next,
+        }
+    }
+
+    pub fn string(self, file: &[u8]) -> NameRead
+        ensures { λ r. ⌜ Reads self string (now (file .entry)) noName (r .cursor) (r .name) ⌝ }
+    {
+        let n = self.word(file);
+        let place = n.cursor.at;
+        let size = n.value as usize;
+        let end = n.cursor.skip(file, size);
+        let next = end.check(last_is_zero(file, place, size), 12, self.at);
+        if next.number != 0 {
+            return NameRead {
+                name: Name {
+                    place: 0,
+                    length: 0,
+                },
+                cursor: next,
+            };
+        }
+        NameRead {
+            name: Name {
+                place,
+                length: less_one(size),
+            },
+            cursor: next,
+        }
+    }
+}
