@@ -1,4 +1,5 @@
 // One tile of an XCF drawable, decoded from its window.
+pub mod grid;
 mod operation;
 mod scatter;
 mod stream;

@@ -1,23 +1,23 @@
--- A test has two cases, and what holds in both holds of it; tests that hold together are equal.
+-- Choices: one of two numbers is below the other or not; a choice by the opposite test, and between two of the same.
 -- Assumes nothing.
 use Prim.Native.Nat.{ℕ, _≤_, _<_}
-use mathlib.Core.Path.{_≡_, refl, sym}
-use mathlib.Core.Bool.{Bool, true, false, cond}
-use native.Mathlib.Omega.{arith}
-use borrow.Author.Tests.{leb-true, leb-false, le-leb}
+use mathlib.Core.Path.{_≡_, refl}
+use mathlib.Core.Bool.{Bool, true, false, cond, not}
+use mathlib.Core.Logic.{_⊎_, inl, inr}
+use borrow.Author.Tests.{leb-true, leb-false}
 use lib.Dec.{leb}
 
-pub by-cases : {A : Type 0} (P : A → Type 0) (b : Bool) (x y : A) → (b ≡ true → P x) → (b ≡ false → P y) → P (cond b x y)
-by-cases P true x y f g = f refl
-by-cases P false x y f g = g refl
-
-pub leb-same : (a b c d : ℕ) → (a ≤ b → c ≤ d) → (c ≤ d → a ≤ b) → leb a b ≡ leb c d
-leb-same a b c d to from = go (leb a b) refl
+pub below-or : (a b : ℕ) → (a < b) ⊎ (b ≤ a)
+below-or a b = go (leb b a) refl
   where
-    up : (t : Bool) → leb c d ≡ t → b < a → false ≡ t
-    up true e h = let z = from (leb-true c d e) in absurd (omega arith)
-    up false e h = refl
+    go : (t : Bool) → leb b a ≡ t → (a < b) ⊎ (b ≤ a)
+    go true e = inr (leb-true b a e)
+    go false e = inl (leb-false b a e)
 
-    go : (t : Bool) → leb a b ≡ t → t ≡ leb c d
-    go true e = sym (le-leb c d (to (leb-true a b e)))
-    go false e = up (leb c d) refl (leb-false a b e)
+pub cond-not : {A : Type 0} (b : Bool) (x y : A) → cond (not b) x y ≡ cond b y x
+cond-not true x y = refl
+cond-not false x y = refl
+
+pub cond-same : {A : Type 0} (b : Bool) (x : A) → cond b x x ≡ x
+cond-same true x = refl
+cond-same false x = refl

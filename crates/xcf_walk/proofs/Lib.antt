@@ -1,5 +1,10 @@
 pub mod Cases
 pub mod Walks
 pub mod Depends
+pub mod Straight
+pub mod Advances
 pub mod Resume
+pub mod Within
 pub mod Parts
+pub mod Loops
+pub mod Refusals

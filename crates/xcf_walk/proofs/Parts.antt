@@ -1,30 +1,31 @@
 -- The bytes of a part, and the word that four of them spell.
 -- Assumes nothing.
-use Prim.Native.Nat.{ℕ, zero, suc, _+_, _-_, _*_, _≤_, _<_, min}
-use mathlib.Core.Path.{_≡_, refl, sym, _∙_, ap}
-use mathlib.Core.List.{List, [], _∷_, _++_}
-use native.Mathlib.Nat.{add-zero}
+use Prim.Native.Nat.{ℕ, suc, _+_, _-_, _*_, _≤_, _<_, min}
+use mathlib.Core.Path.{_≡_}
+use mathlib.Core.List.{List, _∷_}
+use native.Mathlib.Nat.{add-assoc}
 use native.Mathlib.Omega.{arith}
-use lib.ListN.{length, take, drop, getD, length-take, length-drop}
-use lib.Seq.{getD-take, getD-drop, drop-cons}
+use lib.ListN.{length, drop, getD, length-take, length-drop, List·getD-eq-default}
+use lib.Seq.{getD-take, getD-drop, drop-cons, ext-getD}
 use Rattle.xcf_walk.specs.Walk.{part}
 use Rattle.xcf_walk.specs.Fields.{spelt}
 
 pub part-at : (f : List ℕ) (at n i : ℕ) → i < n → getD (part f at n) i 0 ≡ getD f (at + i) 0
 part-at f at n i h = rw (getD-take, getD-drop)
 
--- past a list's end every byte counts as 0
-pub getD-beyond : (l : List ℕ) (i : ℕ) → length l ≤ i → getD l i 0 ≡ 0
-getD-beyond [] i h = refl
-getD-beyond (x ∷ l) zero h = absurd (omega arith)
-getD-beyond (x ∷ l) (suc i) h = getD-beyond l i (omega arith)
-
 -- the last of n bytes, where it lies past the file's end or there is none
 pub part-last-none : (f : List ℕ) (at n : ℕ) → min n (length f - at) ≤ n - 1 → getD (part f at n) (n - 1) 0 ≡ 0
-part-last-none f at n h = getD-beyond (part f at n) (n - 1) (simp (length-take, length-drop) (omega arith))
+part-last-none f at n h = List·getD-eq-default (part f at n) 0 (simp (length-take, length-drop) (omega arith))
 
 pub part-length : (f : List ℕ) (at n : ℕ) → at + n ≤ length f → length (part f at n) ≡ n
 part-length f at n h = simp (length-take, length-drop) (omega arith)
+
+-- a part of a part
+pub part-part : (f : List ℕ) (at n i m : ℕ) → i + m ≤ n → part (part f at n) i m ≡ part f (at + i) m
+part-part f at n i m h =
+    ext-getD 0 _ _ (simp (length-take, length-drop) (omega arith)) (λ k below.
+    let lt : k < m = omega (arith, length-take m (drop i (part f at n)), below) in
+    rw (getD-take, getD-drop, part-at f at n (i + k) (omega arith), part-at f (at + i) m k lt, add-assoc))
 
 -- a part is its first byte and the part behind it
 pub part-cons : (f : List ℕ) (at n : ℕ) → at < length f → part f at (suc n) ≡ getD f at 0 ∷ part f (at + 1) n

@@ -14,16 +14,18 @@ use Rattle.xcf_walk.specs.Cursor.{live, checked, jumped, skipped, outcom
 use Rattle.xcf_walk.proofs.Walks.{after, after-cond, run-bind, run-here, run-length}
 
 -- a walk in two parts: the first leads to a cursor and a value, the second goes on from them
+pub resume-next : {A B : Type 0} {c d : Cursor} {f : List ℕ} {a : A} {w : Walk A} (k : A → Walk B) → Leads c w f d a
+    → resume d (k a) f ≡ resume c (w >>= k) f
+unfolding outcome resume
+resume-next {A} {B} {c} {d} {f} {a} {w} k first =
+    let K : A → ℕ → Outcome B = λ x q. run (k x) f q in
+    after-cond (eqb (d .number) 0) (got a (d .at)) (refused (d .number) (d .at)) K ∙ ap (λ x. after x K) (first .gives)
+    ∙ sym (after-cond (eqb (c .number) 0) (run w f (c .at)) (refused (c .number) (c .at)) K)
+    ∙ ap (λ x. cond (eqb (c .number) 0) x (refused (c .number) (c .at))) (sym (run-bind w k f (c .at)))
+
 pub then : {A B : Type 0} {c d e : Cursor} {f : List ℕ} {a : A} {b : B} {w : Walk A} (k : A → Walk B)
     → Leads c w f d a → Leads d (k a) f e b → Leads c (w >>= k) f e b
-unfolding outcome resume
-then {A} {B} {c} {d} {e} {f} {a} {b} {w} k first rest = record {
-  gives =
-      let K : A → ℕ → Outcome B = λ x q. run (k x) f q in
-      rest .gives ∙ after-cond (eqb (d .number) 0) (got a (d .at)) (refused (d .number) (d .at)) K ∙ ap (λ x. after x K) (first .gives)
-      ∙ sym (after-cond (eqb (c .number) 0) (run w f (c .at)) (refused (c .number) (c .at)) K)
-      ∙ ap (λ x. cond (eqb (c .number) 0) x (refused (c .number) (c .at))) (sym (run-bind w k f (c .at)));
-}
+then k first rest = record { gives = rest .gives ∙ resume-next k first }
 
 -- what a cursor shows where it is live
 pub live-same : {A : Type 0} (c : Cursor) (x y r : A) → (c .number ≡ 0 → x ≡ y) → live c x r ≡ live c y r
@@ -45,10 +47,13 @@ pub then-here : {B : Type 0} {c e : Cursor} {f : List ℕ} {b : B} (h : ℕ) (k 
 unfolding resume
 then-here {c = c} {f = f} h k at rest = record { gives = rest .gives ∙ live-same c _ _ _ (λ z. ap (λ x. run (k x) f (c .at)) (at z) ∙ sym (run-here f (c .at) k)) }
 
+pub resume-length : {B : Type 0} (c : Cursor) (f : List ℕ) (k : ℕ → Walk B) → resume c (k (length f)) f ≡ resume c (fileLength >>= k) f
+unfolding resume
+resume-length c f k = live-same c _ _ _ (λ z. sym (run-length f (c .at) k))
+
 pub then-length : {B : Type 0} {c e : Cursor} {f : List ℕ} {b : B} (k : ℕ → Walk B)
     → Leads c (k (length f)) f e b → Leads c (fileLength >>= k) f e b
-unfolding resume
-then-length {c = c} {f = f} k rest = record { gives = rest .gives ∙ live-same c _ _ _ (λ z. sym (run-length f (c .at) k)) }
+then-length k rest = record { gives = rest .gives ∙ resume-length _ _ k }
 
 pub ends : {A : Type 0} {c : Cursor} {a : A} {f : List ℕ} → Leads c (done a) f c a
 unfolding outcome resume run

@@ -2,13 +2,15 @@
 use Prim.Native.Nat.{ℕ, _+_}
 use mathlib.Core.Path.{_≡_}
 use mathlib.Core.List.{List}
-use mathlib.Core.Bool.{cond}
-use mathlib.Core.Bool.{Bool}
+use mathlib.Core.Bool.{Bool, cond}
 use lib.ListN.{length}
 use lib.Dec.{eqb, leb}
 use Rattle.xcf_walk.specs.declared.cursor.Cursor.{Cursor}
 use Rattle.xcf_walk.specs.declared.cursor.Name.{Name}
-use Rattle.xcf_walk.specs.Walk.{Outcome, got, refused, Walk, run}
+use Rattle.xcf_walk.specs.declared.property.Content.{Content}
+use Rattle.xcf_walk.specs.declared.property.Property.{Property}
+use Rattle.xcf_walk.specs.declared.property.Properties.{Properties}
+use Rattle.xcf_walk.specs.Walk.{Outcome, got, refused, Walk, run, Turn, more, last}
 
 -- a cursor whose number is 0 stands at a place; any other is the refusal of that number and place
 abbrev pub live : {A : Type 0} → Cursor → A → A → A
@@ -41,5 +43,31 @@ pub record Reads {A : Type 0} (c : Cursor) (w : Walk A) (f : List ℕ) (none : A
   pub leads : Leads c w f d a
   pub absent : a ≡ live d a none
 
+-- the values beside a refusal
 abbrev pub noName : Name
 noName = record { place = 0; length = 0 }
+
+abbrev pub noContent : Content
+noContent = record { first = 0; second = 0 }
+
+abbrev pub noProperty : Property
+noProperty = record { kind = 0; start = 0; place = 0; length = 0; content = noContent }
+
+abbrev pub noProperties : Properties
+noProperties = record {
+  compression = 0;
+  unmapped = 0;
+  opacity = 0;
+  mode = 0;
+  visible = 0;
+  apply = 0;
+  dx = 0;
+  dy = 0;
+  active = 0;
+  selection = 0;
+  group = 0;
+}
+
+-- a turn of a loop whose value is its last state
+abbrev pub turnOf : {S : Type 0} → Bool → S → Turn S S
+turnOf again s = cond again (more s) (last s)

@@ -1,3 +1,4 @@
 pub mod Walk
 pub mod Fields
+pub mod Property
 pub mod Cursor

@@ -13,7 +13,6 @@ pub struct Cursor {
     pub number: u32,
 }
 
-// Beside a refusal the value is 0.
 pub struct WordRead {
     pub value: u32,
     pub cursor: Cursor,
@@ -30,13 +29,13 @@ pub struct NameRead {
     pub cursor: Cursor,
 }
 
-fn wide(b: u8) -> u32
+pub(crate) fn wide(b: u8) -> u32
     ensures { λ r. ⌜ (r ≡ b) × (r ≤ 255) ⌝ }
 {
     b as u32
 }
 
-fn word_at(file: &[u8], at: usize) -> u32
+pub(crate) fn word_at(file: &[u8], at: usize) -> u32
     requires { ⌜ at + 4 ≤ length (now file) ⌝ }
     ensures { λ r. ⌜ r ≡ spelt 0 (part (now (file .entry)) at 4) ⌝ }
 {
@@ -126,6 +125,7 @@ impl Cursor {
         }
     }
 
+    // Beside a refusal the value is 0.
     pub fn word(self, file: &[u8]) -> WordRead
         ensures { λ r. ⌜ Reads self word (now (file .entry)) 0 (r .cursor) (r .value) ⌝ }
     {

@@ -1,2 +1,3 @@
-// A file read front to back from one moving place.
+// A file read front to back from one moving place: words, strings and property lists.
 pub mod cursor;
+pub mod property;

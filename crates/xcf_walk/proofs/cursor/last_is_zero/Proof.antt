@@ -1,9 +1,7 @@
-use Prim.Native.Nat.{_+_, _-_, _≤_}
-use mathlib.Core.Path.{_≡_, sym, ap, _∙_}
+use Prim.Native.Nat.{_-_}
+use mathlib.Core.Path.{sym, ap}
 use native.Mathlib.Omega.{arith}
 use lib.Dec.{eqb}
-use lib.ListN.{length, getD}
-use Rattle.xcf_walk.specs.Walk.{part}
 use Rattle.xcf_walk.proofs.Parts.{part-at, part-last-none}
 use borrow.Author.Needs.{needs}
 use Rattle.xcf_walk.proofs.cursor.last_is_zero.Statement.{statement}

@@ -1,7 +1,4 @@
-use Prim.Native.Nat.{_+_}
-use mathlib.Core.Path.{_∙_}
 use native.Mathlib.Omega.{arith}
-use lib.ListN.{getD}
 use Rattle.xcf_walk.proofs.Parts.{spelt-part}
 use borrow.Author.Needs.{needs}
 use Rattle.xcf_walk.proofs.cursor.word_at.Statement.{statement}

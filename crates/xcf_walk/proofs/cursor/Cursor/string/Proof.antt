@@ -1,10 +1,21 @@
+use Prim.Native.Nat.{_-_}
 use mathlib.Core.Path.{refl}
 use native.Mathlib.Omega.{arith}
 use Rattle.xcf_walk.specs.Fields.{string}
+use Rattle.xcf_walk.specs.Cursor.{Leads}
 use Rattle.xcf_walk.proofs.Resume.{then, then-here, ends, by-skip, by-check, reads-live, reads-none}
 use borrow.Author.Needs.{needs}
 use Rattle.xcf_walk.proofs.cursor.Cursor.string.Statement.{statement}
 use Rattle.xcf_walk.proofs.cursor.Cursor.string.Tie as tie
+
+leads : (c : tie.After-check)
+    → let a = c .before .before .before .before .before .before .args in
+    let n = c .before .before .before .before .word .result in
+    Leads (a .self) string (a .file .now) (c .check .result) (record { place = n .cursor .at; length = n .value - 1 })
+unfolding string
+leads c =
+    then-here _ _ (λ _. refl) (then _ (c .before .before .before .before .word .ensures .leads) (then-here _ _ (λ _. refl) (then _ (by-skip _ _ _ (c .before .before .skip .ensures))
+    (then _ (by-check _ _ _ _ (omega arith) (c .before .last-is-zero .ensures) (c .check .ensures)) ends))))
 
 word-requires : tie.Need-word-requires
 word-requires c κs = search needs
@@ -22,21 +33,13 @@ check-requires : tie.Need-check-requires
 check-requires c κs = search needs
 
 returns : tie.Need-returns
-unfolding string
-returns c =
-    reads-none (c .if1 .taken)
-    (then-here _ _ (λ _. refl) (then _ (c .before .before .before .before .before .before .word .ensures .leads) (then-here _ _ (λ _. refl) (then _ (by-skip _ _ _ (c .before .before .before .before .skip .ensures))
-    (then _ (by-check _ _ _ _ (omega arith) (c .before .before .before .last-is-zero .ensures) (c .before .before .check .ensures)) ends)))))
+returns c = reads-none (c .if1 .taken) (leads (c .before .before))
 
 less-one-requires : tie.Need-less-one-requires
 less-one-requires c κs = search needs
 
 returns-2 : tie.Need-returns-2
-unfolding string
-returns-2 c =
-    reads-live (c .before .if1 .left)
-    (then-here _ _ (λ _. refl) (then _ (c .before .before .before .before .before .before .before .word .ensures .leads) (then-here _ _ (λ _. refl) (then _ (by-skip _ _ _ (c .before .before .before .before .before .skip .ensures))
-    (then _ (by-check _ _ _ _ (omega arith) (c .before .before .before .before .last-is-zero .ensures) (c .before .before .before .check .ensures)) (rw (c .less-one .ensures) ends))))))
+returns-2 c = reads-live (c .before .if1 .left) (rw (c .less-one .ensures) (leads (c .before .before .before)))
 
 pub string-spec : {M : Type 1} → statement M
 string-spec =

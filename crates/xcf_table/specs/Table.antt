@@ -1,0 +1,47 @@
+-- The row table: 128 rows of 16 numbers.
+use Prim.Native.Nat.{ℕ, _+_, _-_, _*_}
+use mathlib.Core.List.{List, [], _∷_, _++_}
+use mathlib.Core.Bool.{cond}
+use lib.ListN.{length, take, replicate}
+use lib.Seq.{paste}
+use lib.Dec.{leb}
+use Rattle.xcf_table.specs.declared.Row.{Row}
+
+abbrev pub rowSize : ℕ
+rowSize = 16
+
+abbrev pub tableSize : ℕ
+tableSize = 128 * rowSize
+
+-- a row's numbers, fields 0 to 15
+abbrev pub numbers : Row → List ℕ
+numbers r =
+    r .kind ∷ r .width ∷ r .height ∷ r .depth ∷ r .form ∷ r .name ∷ r .size ∷ r .list ∷ r .tiles ∷ r .count
+    ∷ r .opacity ∷ r .flags ∷ r .dx ∷ r .dy ∷ r .mode ∷ r .owner ∷ []
+
+-- rows one after another: how many, and their numbers
+pub record Rows : Type 0 where
+  pub count : ℕ
+  pub numbers : List ℕ
+
+abbrev pub noRows : Rows
+noRows = record { count = 0; numbers = [] }
+
+unfoldable pub addRow : Rows → Row → Rows
+addRow rows r = record { count = rows .count + 1; numbers = rows .numbers ++ numbers r }
+
+-- a table with its row k replaced, or as it is where it has no such row
+unfoldable pub putRow : List ℕ → ℕ → Row → List ℕ
+putRow table k r = cond (leb (rowSize * (k + 1)) (length table)) (paste table (rowSize * k) (numbers r) rowSize) table
+
+-- a table with zeros from its row k on
+unfoldable pub clearFrom : List ℕ → ℕ → List ℕ
+clearFrom table k = take (rowSize * k) table ++ replicate (length table - rowSize * k) 0
+
+-- the first k rows of a table
+abbrev pub rowsIn : ℕ → List ℕ → Rows
+rowsIn k table = record { count = k; numbers = take (rowSize * k) table }
+
+-- the table of some rows: unused rows are zero
+unfoldable pub tableOf : Rows → List ℕ
+tableOf rows = rows .numbers ++ replicate (tableSize - length (rows .numbers)) 0

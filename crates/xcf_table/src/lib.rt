@@ -1,0 +1,85 @@
+// The row table: 128 rows of 16 numbers in a lent slice.
+ghost use mathlib.Core.Path.{_≡_};
+ghost use Prim.Native.Nat.{_+_, _≤_};
+ghost use lib.ListN.{length};
+ghost use lib.Seq.{paste};
+ghost use Rattle.xcf_table.specs.Table.{numbers, putRow, clearFrom};
+
+// A drawable's row, fields 0 to 15: form is its type, name and size are the place and the number of its name's bytes,
+// list and tiles the places of its properties and of its first tile pointer, and count the number of its tiles.
+pub struct Row {
+    pub kind: u32,
+    pub width: u32,
+    pub height: u32,
+    pub depth: u32,
+    pub form: u32,
+    pub name: u32,
+    pub size: u32,
+    pub list: u32,
+    pub tiles: u32,
+    pub count: u32,
+    pub opacity: u32,
+    pub flags: u32,
+    pub dx: u32,
+    pub dy: u32,
+    pub mode: u32,
+    pub owner: u32,
+}
+
+impl Row {
+    fn numbers(self) -> [u32; 16]
+        ensures { λ r. ⌜ r ≡ numbers self ⌝ }
+    {
+        [
+            self.kind,
+            self.width,
+            self.height,
+            self.depth,
+            self.form,
+            self.name,
+            self.size,
+            self.list,
+            self.tiles,
+            self.count,
+            self.opacity,
+            self.flags,
+            self.dx,
+            self.dy,
+            self.mode,
+            self.owner,
+        ]
+    }
+}
+
+// The numbers of a row go into the table from a place on.
+fn put(table: &mut [u32], at: usize, row: [u32; 16])
+    requires { ⌜ at + 16 ≤ length (now table) ⌝ }
+    ensures { λ _. ⌜ now (table .exit) ≡ paste (now (table .entry)) at row 16 ⌝ }
+{
+    let mut i = 0;
+    while i < 16 {
+        table[at + i] = row[i];
+        i += 1;
+    }
+}
+
+// A row becomes row k of the table, if the table has such a row.
+pub fn put_row(table: &mut [u32], k: u32, row: Row)
+    ensures { λ _. ⌜ now (table .exit) ≡ putRow (now (table .entry)) k row ⌝ }
+{
+    let at = 16 * (k as usize);
+    if at + 16 <= table.len() {
+        put(table, at, row.numbers());
+    }
+}
+
+// The numbers from row k on become zero.
+pub fn clear_from(table: &mut [u32], k: u32)
+    ensures { λ _. ⌜ now (table .exit) ≡ clearFrom (now (table .entry)) k ⌝ }
+{
+    let mut i = 16 * (k as usize);
+    while i < table.len() {
+        table[i] = 0;
+        i += 1;
+    }
+}

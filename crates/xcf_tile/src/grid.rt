@@ -1,0 +1,18 @@
+// The tiles of a drawable.
+ghost use mathlib.Core.Path.{_≡_};
+ghost use Prim.Native.Nat.{_≤_};
+ghost use Rattle.xcf_tile.specs.Grid.{tilesAlong, tileCount};
+
+// How many tiles a side takes: at most 2^26.
+fn tiles_along(side: u32) -> u64
+    ensures { λ r. ⌜ (r ≡ tilesAlong side) × (r ≤ 67108864) ⌝ }
+{
+    (side as u64 + 63) / 64
+}
+
+// How many tiles a drawable of these sides has.
+pub fn tile_count(width: u32, height: u32) -> u64
+    ensures { λ r. ⌜ r ≡ tileCount width height ⌝ }
+{
+    tiles_along(width) * tiles_along(height)
+}

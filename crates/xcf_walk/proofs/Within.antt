@@ -1,0 +1,112 @@
+-- The bounds that a caller needs of the cursors on its way: a live cursor came from a live one, by steps that were taken.
+-- Assumes nothing.
+use Prim.Native.Nat.{ℕ, _+_, _≤_, _<_}
+use mathlib.Core.Path.{_≡_, refl, sym, _∙_, ap}
+use mathlib.Core.List.{List}
+use mathlib.Core.Bool.{Bool, true, false, cond}
+use native.Mathlib.Omega.{arith}
+use borrow.Author.Tests.{eqb-true, eqb-false}
+use lib.Dec.{eqb}
+use lib.ListN.{length}
+use Rattle.xcf_walk.specs.declared.cursor.Cursor.{Cursor}
+use Rattle.xcf_walk.specs.declared.cursor.Name.{Name}
+use Rattle.xcf_walk.specs.declared.property.Properties.{Properties}
+use Rattle.xcf_walk.specs.Walk.{Walk, got, refused, part, run, bytes, here, must}
+use Rattle.xcf_walk.specs.Fields.{spelt, number, word, string}
+use Rattle.xcf_walk.specs.Property.{properties}
+use Rattle.xcf_walk.specs.Cursor.{checked, jumped, outcome, resume, Leads, Reads, noName, noProperties}
+use Rattle.xcf_walk.proofs.Cases.{cond-same}
+use Rattle.xcf_walk.proofs.Walks.{got-not-refused, parted, got-done, got-bytes, got-here, got-must}
+use Rattle.xcf_walk.proofs.Straight.{Straight, straight-forward}
+use Rattle.xcf_walk.proofs.Advances.{Advances, advances-properties}
+use Rattle.xcf_walk.proofs.Resume.{is-live}
+
+-- a walk that leads to a live cursor was taken
+module _ {A : Type 0} {c d : Cursor} {w : Walk A} {f : List ℕ} {a : A} (l : Leads c w f d a) (h : d .number ≡ 0) where
+  taken : (c .number ≡ 0) × (got a (d .at) ≡ run w f (c .at))
+  unfolding outcome resume
+  taken = go (eqb (c .number) 0) refl (sym (is-live d (got a (d .at)) (refused (d .number) (d .at)) h) ∙ l .gives)
+    where
+      go : (t : Bool) → eqb (c .number) 0 ≡ t → got a (d .at) ≡ cond t (run w f (c .at)) (refused (c .number) (c .at))
+          → (c .number ≡ 0) × (got a (d .at) ≡ run w f (c .at))
+      go true e1 e2 = (eqb-true _ _ e1, e2)
+      go false e1 e2 = absurd (got-not-refused e2)
+
+  pub live-before : c .number ≡ 0
+  live-before = taken .0
+
+  pub live-run : got a (d .at) ≡ run w f (c .at)
+  live-run = taken .1
+
+-- so it ended where the walk does: by any walk that ends in the file, by one that passes over a byte, and by one that follows no pointer
+module _ {A : Type 0} {c d : Cursor} {w : Walk A} {f : List ℕ} {a : A} where
+  pub ends-within : ((at : ℕ) (b : A) (q : ℕ) → got b q ≡ run w f at → q ≤ length f) → Leads c w f d a → d .number ≡ 0 → d .at ≤ length f
+  ends-within inside l h = inside (c .at) a (d .at) (live-run l h)
+
+  pub moves-on : Advances w → Leads c w f d a → d .number ≡ 0 → (c .at < d .at) × (d .at ≤ length f)
+  moves-on v l h = v .passes f (c .at) a (d .at) (live-run l h)
+
+  pub straight-within : Straight w → Leads c w f d a → d .number ≡ 0 → (c .at ≤ d .at) × (c .at ≤ length f → d .at ≤ length f)
+  straight-within s l h = straight-forward f (c .at) s (live-run l h)
+
+-- a word
+pub got-word : (f : List ℕ) (at : ℕ) {v q : ℕ} → got v q ≡ run word f at → (q ≡ at + 4) × (at + 4 ≤ length f) × (v ≡ spelt 0 (part f at 4))
+unfolding word number
+got-word f at e =
+    let p = parted (bytes 4) _ f at e in
+    let b = got-bytes f at 4 (p .first) in
+    let d = got-done f (p .place) (p .rest) in
+    (d .0 ∙ b .0, b .1, d .1 ∙ ap (spelt 0) (b .2))
+
+pub word-within : {c d : Cursor} {f : List ℕ} {v : ℕ} → Leads c word f d v → d .number ≡ 0
+    → (d .at ≡ c .at + 4) × (d .at ≤ length f) × (v ≡ spelt 0 (part f (c .at) 4))
+word-within {c} {f = f} l h = let g = got-word f (c .at) (live-run l h) in (g .0, omega (arith, g .0, g .1), g .2)
+
+-- a string: its bytes and its end lie in the file
+pub got-string : (f : List ℕ) (at : ℕ) {name : Name} {q : ℕ} → got name q ≡ run string f at → (name .place + name .length ≤ length f) × (q ≤ length f)
+unfolding string
+got-string f at e =
+    let p = parted here _ f at e in
+    let n = parted word _ f _ (p .rest) in
+    let s = parted here _ f _ (n .rest) in
+    let b = parted (bytes (n .value)) _ f _ (s .rest) in
+    let m = parted (must _ 12 _) _ f _ (b .rest) in
+    let passed = got-bytes f (s .place) (n .value) (b .first) in
+    let end = got-done f (m .place) (m .rest) in (
+      omega (arith, got-here f (n .place) (s .first), passed .1, ap (λ x. x .place) (end .1), ap (λ x. x .length) (end .1)),
+      omega (arith, passed .0, passed .1, got-must f (b .place) _ 12 _ (m .first) .0, end .0),
+    )
+
+pub string-within : {c d : Cursor} {f : List ℕ} {name : Name} → Reads c string f noName d name
+    → (name .place + name .length ≤ length f) × (d .number ≡ 0 → d .at ≤ length f)
+string-within {c} {d} {f} {name} r = (go (eqb (d .number) 0) refl (r .absent), λ h. got-string f (c .at) (live-run (r .leads) h) .1)
+  where
+    go : (t : Bool) → eqb (d .number) 0 ≡ t → name ≡ cond t name noName → name .place + name .length ≤ length f
+    go true e1 e2 = got-string f (c .at) (live-run (r .leads) (eqb-true _ _ e1)) .0
+    go false e1 e2 = rw e2 (omega arith)
+
+pub properties-within : {c d : Cursor} {f : List ℕ} {p : Properties} (owner unmapped : ℕ) → Reads c (properties owner unmapped) f noProperties d p
+    → d .number ≡ 0 → d .at ≤ length f
+properties-within owner unmapped r h = moves-on (advances-properties owner unmapped) (r .leads) h .1
+
+-- the steps on a cursor
+pub check-keeps : (c : Cursor) {d : Cursor} (t : Bool) (n p : ℕ) → d ≡ checked c t n p → 1 ≤ n → d .number ≡ 0 → (d ≡ c) × (t ≡ true)
+unfolding checked
+check-keeps c {d} t n p e le h = go (eqb (c .number) 0) refl t e
+  where
+    go : (l : Bool) → eqb (c .number) 0 ≡ l → (s : Bool) → d ≡ cond l (cond s c (record { at = p; number = n })) c → (d ≡ c) × (s ≡ true)
+    go true e1 true e2 = (e2, refl)
+    go true e1 false e2 = absurd (omega (arith, ap (λ x. x .number) e2))
+    go false e1 s e2 = absurd (eqb-false _ _ e1 (sym (ap (λ x. x .number) e2) ∙ h))
+
+pub check-live : (c : Cursor) {d : Cursor} (t : Bool) (n p : ℕ) → d ≡ checked c t n p → t ≡ true → d ≡ c
+unfolding checked
+check-live c t n p e h = e ∙ rw h (cond-same (eqb (c .number) 0) c)
+
+pub jump-at : (c : Cursor) {d : Cursor} (p : ℕ) → d ≡ jumped c p → d .number ≡ 0 → d .at ≡ p
+unfolding jumped
+jump-at c {d} p e h = go (eqb (c .number) 0) refl e
+  where
+    go : (l : Bool) → eqb (c .number) 0 ≡ l → d ≡ cond l (record { at = p; number = 0 }) c → d .at ≡ p
+    go true e1 e2 = ap (λ x. x .at) e2
+    go false e1 e2 = absurd (eqb-false _ _ e1 (sym (ap (λ x. x .number) e2) ∙ h))

@@ -1,0 +1,62 @@
+use mathlib.Core.Path.{refl}
+use native.Mathlib.Omega.{arith}
+use Rattle.xcf_walk.specs.Property.{colourMap}
+use Rattle.xcf_walk.specs.Cursor.{Leads}
+use Rattle.xcf_walk.proofs.Resume.{then, then-here, ends, by-skip, by-check, reads-live, reads-none}
+use borrow.Author.Needs.{needs}
+use Rattle.xcf_walk.proofs.cursor.Cursor.colour_map.Statement.{statement}
+use Rattle.xcf_walk.proofs.cursor.Cursor.colour_map.Tie as tie
+
+leads : (c : tie.After-skip)
+    → let a = c .before .before .before .before .before .before .before .before .args in
+    Leads (a .self) (colourMap (a .at) (a .n)) (a .file .now) (c .skip .result) (record { first = c .before .before .before .before .before .word .result .value; second = 0 })
+unfolding colourMap
+leads c =
+    then _ (by-check _ _ _ _ (omega arith) refl (c .before .before .before .before .before .before .check .ensures))
+    (then-here _ _ (λ _. refl) (then _ (c .before .before .before .before .before .word .ensures .leads) (then _ (by-check _ _ _ _ (omega arith) refl (c .before .before .before .check2 .ensures))
+    (then _ (by-check _ _ _ _ (omega arith) refl (c .before .check3 .ensures)) (then _ (by-skip _ _ _ (c .skip .ensures)) ends)))))
+
+check-requires : tie.Need-check-requires
+check-requires c κs = search needs
+
+word-requires : tie.Need-word-requires
+word-requires c κs = search needs
+
+check-requires-2 : tie.Need-check-requires-2
+check-requires-2 c κs = search needs
+
+cast-colours : tie.Need-cast-colours
+cast-colours c = search needs
+
+mul-colours : tie.Need-mul-colours
+mul-colours c = search needs
+
+add-check : tie.Need-add-check
+add-check c = search needs
+
+check-requires-3 : tie.Need-check-requires-3
+check-requires-3 c κs = search needs
+
+skip-requires : tie.Need-skip-requires
+skip-requires c κs = search needs
+
+returns : tie.Need-returns
+returns c = reads-none (c .if1 .taken) (leads (c .before .before))
+
+returns-2 : tie.Need-returns-2
+returns-2 c = reads-live (c .if1 .left) (leads (c .before .before))
+
+pub colour-map-spec : {M : Type 1} → statement M
+colour-map-spec =
+    tie.close
+    (tie.spec
+    check-requires
+    word-requires
+    check-requires-2
+    cast-colours
+    mul-colours
+    add-check
+    check-requires-3
+    skip-requires
+    returns
+    returns-2)

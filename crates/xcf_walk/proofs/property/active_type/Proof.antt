@@ -1,0 +1,15 @@
+use borrow.Author.Tests.{eq-eqb, ne-eqb}
+use Rattle.xcf_walk.specs.Property.{activeType}
+use Rattle.xcf_walk.proofs.property.active_type.Statement.{statement}
+use Rattle.xcf_walk.proofs.property.active_type.Tie as tie
+
+returns : tie.Need-returns
+unfolding activeType
+returns c = rw (eq-eqb _ _ (c .if1 .taken))
+
+returns-2 : tie.Need-returns-2
+unfolding activeType
+returns-2 c = rw (ne-eqb _ _ (c .if1 .left))
+
+pub active-type-spec : {M : Type 1} → statement M
+active-type-spec = tie.close (tie.spec returns returns-2)

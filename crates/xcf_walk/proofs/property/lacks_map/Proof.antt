@@ -1,0 +1,15 @@
+use borrow.Author.Tests.{eq-eqb, ne-eqb}
+use Rattle.xcf_walk.specs.Property.{lacksMap}
+use Rattle.xcf_walk.proofs.property.lacks_map.Statement.{statement}
+use Rattle.xcf_walk.proofs.property.lacks_map.Tie as tie
+
+returns : tie.Need-returns
+unfolding lacksMap
+returns c = rw (eq-eqb _ _ (c .before .if1 .taken))
+
+returns-2 : tie.Need-returns-2
+unfolding lacksMap
+returns-2 c = rw (ne-eqb _ _ (c .if1 .left))
+
+pub lacks-map-spec : {M : Type 1} → statement M
+lacks-map-spec = tie.close (tie.spec returns returns-2)

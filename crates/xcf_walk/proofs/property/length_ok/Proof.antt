@@ -1,0 +1,26 @@
+use borrow.Author.Tests.{lt-ltb, le-ltb, eq-eqb, ne-eqb}
+use Rattle.xcf_walk.specs.Property.{lengthOk}
+use borrow.Author.Needs.{needs}
+use Rattle.xcf_walk.proofs.property.length_ok.Statement.{statement}
+use Rattle.xcf_walk.proofs.property.length_ok.Tie as tie
+
+mul-fixed : tie.Need-mul-fixed
+mul-fixed c = search needs
+
+array-read-fixed : tie.Need-array-read-fixed
+array-read-fixed c = search needs
+
+returns : tie.Need-returns
+unfolding lengthOk
+returns c = rw (lt-ltb _ _ (c .before .if1 .taken), eq-eqb _ _ (c .if2 .taken))
+
+returns-2 : tie.Need-returns-2
+unfolding lengthOk
+returns-2 c = rw (lt-ltb _ _ (c .before .if1 .taken), ne-eqb _ _ (c .if2 .left))
+
+returns-3 : tie.Need-returns-3
+unfolding lengthOk
+returns-3 c = rw (le-ltb _ _ (c .if1 .left))
+
+pub length-ok-spec : {M : Type 1} → statement M
+length-ok-spec = tie.close (tie.spec mul-fixed array-read-fixed returns returns-2 returns-3)
