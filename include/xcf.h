@@ -1,12 +1,26 @@
-/* XCF tiles, decoded and encoded. Every function ends, touches only what it is lent, and answers by value.
+/* XCF files, read; XCF tiles, decoded and encoded. Every function ends, touches only what it is lent, and answers by value.
  *
  * A pointer is never NULL, also where its length is 0; a buffer that is written overlaps no other. Nothing else is asked of
  * a caller: any bytes and any numbers may be lent.
  *
- * number is 0, or says why the call was refused; a refusal leaves every buffer as lent, and its other fields are 0. place is
- * where in a file the fault stands: 0 for the functions here.
+ * number is 0, or says why the call was refused; a refusal leaves every buffer as lent, unless said otherwise, and its other
+ * fields are 0. place is where in the file the fault stands: 0 for tiles.
+ *    1  a field or payload runs past the file's end
+ *    2  the first 9 bytes are not "gimp xcf "
+ *    3  bytes 9 to 13 are not "file", "v001", "v002" or "v003" and a zero
+ *    4  a side is 0 or above 16,384
+ *    5  the base type is above 2, or 2 in version 0
+ *    6  a known property has a wrong length
+ *    7  a property's content is not allowed
+ *    8  a 49th layer or 33rd channel
+ *    9  a hierarchy or first level pointer is 0
+ *   10  a type, size or depth disagrees with its owner
  *   11  a lent buffer has the wrong length
+ *   12  a string of nonzero length does not end in a zero byte
+ *   13  a bad tile pointer or closing word
  *   14  the tile is unusable: sides are 1 to 64, depth is 1 to 4, compression is 0 (plain) or 1 (run-length encoded)
+ *   15  the file is longer than 1,073,741,824 bytes
+ *   16  a layer is a floating selection
  *   18  the encoding would exceed the lent output
  */
 #ifndef XCF_H
@@ -45,6 +59,27 @@ typedef struct {
  * the output beyond it is unchanged. 16,644 bytes hold the encoding of any tile. */
 xcf_encode_answer xcf_encode_tile(const uint8_t *pixels, size_t pixels_length, uint32_t width, uint32_t height, uint32_t depth,
                                   uint8_t *output, size_t output_length);
+
+/* The canvas's sides; base is 0 RGB, 1 greyscale, 2 indexed; version is 0 to 3; compression is 0 (plain) or 1 (run-length
+ * encoded); rows is how many rows of the table are used. */
+typedef struct {
+    uint64_t number;
+    uint64_t place;
+    uint64_t width;
+    uint64_t height;
+    uint64_t base;
+    uint64_t version;
+    uint64_t compression;
+    uint64_t rows;
+} xcf_read_answer;
+
+/* Reads a file into a table of exactly 2,048 numbers: 128 rows of 16, one for each layer, directly behind it its mask, and
+ * then one for each channel. Unused rows are zero. 11 and 15 leave the table as lent; any other refusal makes it zero.
+ * A row: 0 kind (1 layer, 2 mask, 3 channel); 1 width; 2 height; 3 bytes per pixel; 4 type; 5 place of the name's bytes;
+ * 6 their number; 7 place of the properties; 8 place of the first tile pointer; 9 tile count; 10 opacity; 11 flags
+ * (1 visible, 2 apply mask, 4 selection, 8 active, 16 group); 12 and 13 offsets; 14 mode; 15 the owning layer's row for a
+ * mask, else its own. */
+xcf_read_answer xcf_read(const uint8_t *file, size_t file_length, uint32_t *table, size_t table_length);
 
 #ifdef __cplusplus
 }

@@ -1,15 +1,20 @@
-/* The header as a C program sees it: document 01's tile of depth 2 is decoded, and what was encoded decodes to itself. */
+/* The header as a C program sees it: document 01's tile of depth 2 is decoded, what was encoded decodes to itself, and
+ * document 01's whole file is read. */
 #include "xcf.h"
 
 #include <stdio.h>
 #include <string.h>
+
+_Static_assert(sizeof(xcf_tile_answer) == 40, "five numbers of 64 bits");
+_Static_assert(sizeof(xcf_encode_answer) == 24, "three numbers of 64 bits");
+_Static_assert(sizeof(xcf_read_answer) == 64, "eight numbers of 64 bits");
 
 static int fails(const char *what) {
     fprintf(stderr, "header: %s\n", what);
     return 1;
 }
 
-int main(void) {
+static int tiles_fail(void) {
     const uint8_t window[] = {0x01, 0x10, 0xfe, 0x20, 0x30};
     const uint8_t expected[] = {0x10, 0x20, 0x10, 0x30};
     uint8_t pixels[4] = {0xaa, 0xaa, 0xaa, 0xaa};
@@ -30,4 +35,44 @@ int main(void) {
 
     t = xcf_decode_tile(window, sizeof window, 65, 1, 2, 1, pixels, sizeof pixels);
     return t.number == 14 ? 0 : fails("the refusal of a side of 65");
+}
+
+/* A grey pixel in a channel named "s". */
+static const uint8_t file[143] = {
+    0x67, 0x69, 0x6d, 0x70, 0x20, 0x78, 0x63, 0x66, 0x20, 0x66, 0x69, 0x6c, 0x65, 0,
+    0, 0, 0, 1, 0, 0, 0, 1, 0, 0, 0, 1, 0, 0, 0, 17, 0, 0, 0, 1, 1, 0, 0, 0, 0, 0, 0, 0, 0,
+    0, 0, 0, 0, 0, 0, 0, 55, 0, 0, 0, 0,
+    0, 0, 0, 1, 0, 0, 0, 1, 0, 0, 0, 2, 0x73, 0,
+    0, 0, 0, 6, 0, 0, 0, 4, 0, 0, 0, 255, 0, 0, 0, 8, 0, 0, 0, 4, 0, 0, 0, 1, 0, 0, 0, 0, 0, 0, 0, 0,
+    0, 0, 0, 105,
+    0, 0, 0, 1, 0, 0, 0, 1, 0, 0, 0, 1, 0, 0, 0, 125, 0, 0, 0, 0,
+    0, 0, 0, 1, 0, 0, 0, 1, 0, 0, 0, 141, 0, 0, 0, 0,
+    0xff, 0xff,
+};
+
+static int reading_fails(void) {
+    const uint32_t row[16] = {3, 1, 1, 1, 2, 67, 1, 69, 133, 1, 255, 1, 0, 0, 0, 0};
+    uint32_t table[2048], expected[2048] = {0};
+    memset(table, 0xaa, sizeof table);
+    memcpy(expected, row, sizeof row);
+    xcf_read_answer r = xcf_read(file, sizeof file, table, 2048);
+    if (r.number != 0 || r.place != 0 || r.width != 1 || r.height != 1 || r.base != 1 || r.version != 0 || r.compression != 1 ||
+        r.rows != 1)
+        return fails("the answer of xcf_read");
+    if (memcmp(table, expected, sizeof table) != 0)
+        return fails("the table of xcf_read");
+
+    r = xcf_read(file, sizeof file, table, 2047);
+    if (r.number != 11 || r.place != 0 || r.rows != 0 || memcmp(table, expected, sizeof table) != 0)
+        return fails("the refusal of a table of 2,047 numbers");
+
+    memset(expected, 0, sizeof expected);
+    r = xcf_read(file, 140, table, 2048);
+    if (r.number != 13 || r.place != 133 || r.rows != 0 || memcmp(table, expected, sizeof table) != 0)
+        return fails("the refusal of a file that is cut short");
+    return 0;
+}
+
+int main(void) {
+    return tiles_fail() || reading_fails();
 }

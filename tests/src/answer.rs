@@ -1,9 +1,37 @@
-//! The answers of the two tile functions, and the numbers in them.
+//! The answers of the library's functions, and the numbers in them.
 
+/// A field or payload runs past the file's end.
+pub const PAST_END: u64 = 1;
+/// The first 9 bytes are not those of an XCF file.
+pub const NOT_XCF: u64 = 2;
+/// The version is none of 0 to 3.
+pub const UNKNOWN_VERSION: u64 = 3;
+/// A side is 0 or above 16,384.
+pub const BAD_SIDE: u64 = 4;
+/// A base type above 2, or 2 in version 0.
+pub const BAD_BASE: u64 = 5;
+/// A known property has a wrong length.
+pub const PROPERTY_LENGTH: u64 = 6;
+/// A property's content is not allowed.
+pub const BAD_CONTENT: u64 = 7;
+/// A 49th layer or a 33rd channel.
+pub const TOO_MANY: u64 = 8;
+/// A hierarchy pointer or a first level pointer is 0.
+pub const ZERO_POINTER: u64 = 9;
+/// A type, size or depth disagrees with its owner.
+pub const DISAGREES: u64 = 10;
 /// A lent buffer has the wrong length.
 pub const WRONG_LENGTH: u64 = 11;
+/// A string of nonzero length does not end in a zero byte.
+pub const UNENDED_STRING: u64 = 12;
+/// A bad tile pointer or closing word.
+pub const BAD_TILE_POINTER: u64 = 13;
 /// A side, depth or compression is unusable.
 pub const UNUSABLE: u64 = 14;
+/// The file is too long.
+pub const FILE_TOO_LONG: u64 = 15;
+/// A layer is a floating selection.
+pub const FLOATING_SELECTION: u64 = 16;
 /// The encoding would exceed the lent output.
 pub const OUTPUT_TOO_SHORT: u64 = 18;
 
@@ -20,10 +48,24 @@ pub const STREAM_LIMIT: usize = 4_096;
 /// Longer windows are cut here.
 pub const WINDOW_LIMIT: usize = 24_576;
 
+/// Longer files are refused.
+pub const FILE_LIMIT: usize = 1_073_741_824;
+
+/// Numbers in a row of the table.
+pub const ROW_LENGTH: usize = 16;
+
+/// Numbers in the table that the reader is lent: 128 rows.
+pub const TABLE_LENGTH: usize = 2_048;
+
+/// A row of the table.
+pub type Row = [u32; ROW_LENGTH];
+
 /// A decoder: window, width, height, depth, compression, pixels.
 pub type Decode = fn(&[u8], u32, u32, u32, u32, &mut [u8]) -> TileAnswer;
 /// An encoder: pixels, width, height, depth, output.
 pub type Encode = fn(&[u8], u32, u32, u32, &mut [u8]) -> WriteAnswer;
+/// A reader: file, table.
+pub type Read = fn(&[u8], &mut [u32]) -> ReadAnswer;
 
 /// The answer to decoding a tile.
 #[repr(C)]
@@ -81,6 +123,35 @@ impl WriteAnswer {
             number: 0,
             place: 0,
             length: length as u64,
+        }
+    }
+}
+
+/// The answer to reading a file.
+#[repr(C)]
+#[derive(Clone, Copy, Debug, PartialEq, Eq)]
+pub struct ReadAnswer {
+    pub number: u64,
+    pub place: u64,
+    pub width: u64,
+    pub height: u64,
+    pub base: u64,
+    pub version: u64,
+    pub compression: u64,
+    pub rows: u64,
+}
+
+impl ReadAnswer {
+    pub fn refused(number: u64, place: usize) -> Self {
+        ReadAnswer {
+            number,
+            place: place as u64,
+            width: 0,
+            height: 0,
+            base: 0,
+            version: 0,
+            compression: 0,
+            rows: 0,
         }
     }
 }

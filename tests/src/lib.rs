@@ -1,10 +1,12 @@
 //! Compares the static library with an independent implementation of the
-//! rules for one tile.
+//! rules for one tile and for reading a whole file.
 
 pub mod answer;
 pub mod cases;
+pub mod files;
 pub mod library;
 pub mod random;
+pub mod read;
 pub mod tile;
 pub mod vectors;
 

@@ -1,6 +1,6 @@
 //! The static library's functions, with safe wrappers.
 
-use crate::answer::{TileAnswer, WriteAnswer};
+use crate::answer::{ReadAnswer, TileAnswer, WriteAnswer};
 
 unsafe extern "C" {
     fn xcf_decode_tile(
@@ -23,6 +23,13 @@ unsafe extern "C" {
         output: *mut u8,
         output_length: usize,
     ) -> WriteAnswer;
+
+    fn xcf_read(
+        file: *const u8,
+        file_length: usize,
+        table: *mut u32,
+        table_length: usize,
+    ) -> ReadAnswer;
 }
 
 pub fn decode_tile(
@@ -69,4 +76,10 @@ pub fn encode_tile(
             output.len(),
         )
     }
+}
+
+pub fn read(file: &[u8], table: &mut [u32]) -> ReadAnswer {
+    // SAFETY: both slices are valid for their lengths during the call, and
+    // they do not overlap.
+    unsafe { xcf_read(file.as_ptr(), file.len(), table.as_mut_ptr(), table.len()) }
 }

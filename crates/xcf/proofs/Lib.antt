@@ -1,1 +1,2 @@
+pub mod ExampleRead
 pub mod Theorems

@@ -1,7 +1,8 @@
 -- The theorems of the library, each in full. `proofs/Theorems.antt` proves each by a citation.
 use mathlib.Core.Path.{_≡_}
+use mathlib.Core.Bool.{true}
 use mathlib.Core.List.{List, [], _++_}
-use Prim.Native.Nat.{ℕ, _+_, _*_, _/_, _≤_, _<_}
+use Prim.Native.Nat.{ℕ, _+_, _-_, _*_, _/_, _≤_, _<_}
 use lib.ListN.{length, getD, take, replicate}
 use Rattle.xcf_tile.specs.Stream.{streamAt}
 use Rattle.xcf_tile.specs.Tile.{streamsAt, tileOf, windowLimit}
@@ -9,11 +10,35 @@ use Rattle.xcf_tile.specs.declared.TileAnswer.{TileAnswer}
 use Rattle.xcf_tile.specs.Answer.{Decoded}
 use Rattle.xcf_encode.specs.Segment.{segments, encodeStream}
 use Rattle.xcf_encode.specs.Tile.{planes, operationsOf, encodeTile}
+use Rattle.xcf_walk.specs.Walk.{refused, run}
+use Rattle.xcf_table.specs.Table.{rowSize, tableSize}
+use Rattle.xcf_read.specs.Hierarchy.{wordLinks}
+use Rattle.xcf_read.specs.Image.{image, structureByte}
+use Rattle.xcf_read.specs.Answer.{refusals, listed, readAnswer, readTable}
+use Rattle.xcf.specs.ExampleFile.{exampleFile, exampleRow}
 use Rattle.xcf.specs.Examples.{table, All}
 
 -- The worked examples of document 01 hold.
 abbrev pub ExamplesHold : Type 0
 ExamplesHold = All table
+
+-- What the reader answers and leaves in the table depends on the file's length and its structure bytes, and on nothing else.
+abbrev pub StructureBytesDecide : Type 0
+StructureBytesDecide =
+    (file other table : List ℕ) → length file ≡ length other
+    → ((i : ℕ) → structureByte file i → getD file i 0 ≡ getD other i 0)
+    → (readAnswer file table ≡ readAnswer other table) × (readTable file table ≡ readTable other table)
+
+-- A refusal of the walk has a number of document 01.
+abbrev pub RefusalsAreListed : Type 0
+RefusalsAreListed = (file : List ℕ) (n p : ℕ) → refused n p ≡ run (image wordLinks) file 0 → listed refusals n ≡ true
+
+-- The example file of document 01 is accepted with its canvas and its row.
+abbrev pub ExampleFileIsRead : Type 0
+ExampleFileIsRead =
+    (table : List ℕ) → length table ≡ tableSize
+    → (readAnswer exampleFile table ≡ record { number = 0; place = 0; width = 1; height = 1; base = 1; version = 0; compression = 1; rows = 1 })
+    × (readTable exampleFile table ≡ exampleRow ++ replicate (tableSize - rowSize) 0)
 
 -- A good tile depends only on the bytes it consumed: another window that has them first gives the same tile.
 abbrev pub ConsumedBytesDecide : Type 0

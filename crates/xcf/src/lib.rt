@@ -1,8 +1,18 @@
 // The exported C interface.
 ghost use Rattle.xcf_tile.specs.Answer.{Decoded};
 ghost use Rattle.xcf_encode.specs.Answer.{TileEncoded};
+ghost use Rattle.xcf_read.specs.Answer.{Read};
 use xcf_encode::EncodeAnswer;
+use xcf_read::ReadAnswer;
 use xcf_tile::TileAnswer;
+
+// The structures of a file as rows of a table of 2,048 numbers.
+#[no_mangle]
+pub extern "C" fn xcf_read(file: &[u8], table: &mut [u32]) -> ReadAnswer
+    ensures { λ r. ⌜ Read (now (file .entry)) (now (table .entry)) r (now (table .exit)) ⌝ }
+{
+    xcf_read::read(file, table)
+}
 
 // The tile of `width` by `height` pixels of `depth` bytes each in a window: plain for compression 0, encoded for 1.
 #[no_mangle]

@@ -1,0 +1,111 @@
+-- The loop over drawables: `Going` holds at its head (`going-start`), each drawable keeps it (`going-next`) and has room in the
+-- table (`room-for-one`), and behind the last the rows in the table are what the walk gives (`going-over`).
+-- Assumes nothing.
+use Prim.Native.Nat.{ℕ, suc, _+_, _-_, _*_, _≤_, _<_}
+use mathlib.Core.Path.{_≡_, refl, sym, _∙_, ap}
+use mathlib.Core.List.{List}
+use mathlib.Core.Bool.{Bool, true, false, cond}
+use native.Mathlib.Nat.{sub-zero, add-zero}
+use native.Mathlib.Omega.{arith}
+use borrow.Author.Tests.{le-leb, eqb-true}
+use lib.Dec.{eqb}
+use lib.ListN.{length}
+use Rattle.xcf_walk.specs.declared.cursor.Cursor.{Cursor}
+use Rattle.xcf_walk.specs.Walk.{got, refused, part, run, bytes, jump}
+use Rattle.xcf_walk.specs.Fields.{spelt, number, word}
+use Rattle.xcf_walk.specs.Cursor.{jumped, outcome, resume, Leads}
+use Rattle.xcf_walk.proofs.Walks.{got-not-refused}
+use Rattle.xcf_walk.proofs.Resume.{then, ends, by-jump, is-live, live-same}
+use Rattle.xcf_walk.proofs.Within.{live-before, word-within}
+use Rattle.xcf_table.specs.Table.{Rows, rowsIn}
+use Rattle.xcf_read.specs.declared.drawable.Canvas.{Canvas}
+use Rattle.xcf_read.specs.Hierarchy.{wordLinks}
+use Rattle.xcf_read.specs.Drawable.{drawable}
+use Rattle.xcf_read.specs.Image.{drawables}
+use Rattle.xcf_read.specs.Parts.{Filled, rowsMost, wordsAt}
+
+-- a jump from a refusal keeps it, so that its place counts only where the cursor is live
+jump-to : (c : Cursor) {d : Cursor} {f : List ℕ} (p : ℕ) {q : ℕ} → (c .number ≡ 0 → q ≡ p) → d ≡ jumped c q → Leads c (jump p) f d tt
+unfolding jumped
+jump-to c p h e = by-jump c p (e ∙ live-same c _ _ _ (λ z. ap (λ x. record { at = x; number = 0 }) (h z)))
+
+-- a word that lies in the file is read
+word-live : {c d : Cursor} {f : List ℕ} {v : ℕ} → Leads c word f d v → c .number ≡ 0 → c .at + 4 ≤ length f → d .number ≡ 0
+unfolding outcome resume run bytes number word
+word-live {c} {d} {f} {v} l h fits = go (eqb (d .number) 0) refl (l .gives ∙ is-live c _ _ h ∙ rw (le-leb _ _ fits))
+  where
+    go : (t : Bool) → eqb (d .number) 0 ≡ t → cond t (got v (d .at)) (refused (d .number) (d .at)) ≡ got (spelt 0 (part f (c .at) 4)) (c .at + 4) → d .number ≡ 0
+    go true e1 e2 = eqb-true _ _ e1
+    go false e1 e2 = absurd (got-not-refused (sym e2))
+
+-- what the first of some drawables may take, and the others
+rows-one-more : (kind n : ℕ) → rowsMost kind (suc n) ≡ rowsMost kind 1 + rowsMost kind n
+unfolding rowsMost
+rows-one-more kind n = go (eqb kind 1)
+  where
+    go : (t : Bool) → cond t (2 * suc n) (suc n) ≡ cond t 2 1 + cond t (2 * n) n
+    go true = omega arith
+    go false = omega arith
+
+module _ (f : List ℕ) (c : Cursor) (kind : ℕ) (canvas : Canvas) (at n k : ℕ) (old : List ℕ) where
+  -- of n drawables whose pointers stand at a place i are read, and the next pointer stands at link
+  pub record Going (new : List ℕ) (next : Cursor) (rows : ℕ) (link : Cursor) (i : ℕ) : Type 0 where
+    pub inside : i ≤ n
+    pub size : length new ≡ length old
+    pub few : rows + rowsMost kind (n - i) ≤ k + rowsMost kind n
+    pub place : next .number ≡ 0 → (link .number ≡ 0) × (link .at ≡ at + 4 * i) × (at + 4 * n ≤ length f)
+    pub whole : {d : Cursor} {all : Rows} → Leads next (drawables wordLinks kind canvas (wordsAt f (at + 4 * i) (n - i)) (rowsIn rows new)) f d all
+        → Leads c (drawables wordLinks kind canvas (wordsAt f at n) (rowsIn k old)) f d all
+
+pub going-start : {f : List ℕ} {c : Cursor} {kind : ℕ} {canvas : Canvas} {at n k : ℕ} {old : List ℕ} {link : Cursor}
+    → link ≡ record { at = at; number = 0 } → (c .number ≡ 0 → at + 4 * n ≤ length f) → Going f c kind canvas at n k old old c k link 0
+going-start e fits = record {
+  inside = omega arith;
+  size = refl;
+  few = rw sub-zero (omega arith);
+  place = λ h. (ap (λ x. x .number) e, rw add-zero (ap (λ x. x .at) e), fits h);
+  whole = λ l. rw (sub-zero, add-zero) at l;
+}
+
+module _ {f : List ℕ} {c : Cursor} {kind : ℕ} {canvas : Canvas} {at n k : ℕ} {old new : List ℕ} {next : Cursor} {rows : ℕ} {link : Cursor} {i : ℕ}
+    (g : Going f c kind canvas at n k old new next rows link i) where
+  pub going-over : n ≤ i → Filled c (drawables wordLinks kind canvas (wordsAt f at n) (rowsIn k old)) f old next rows new × (rows ≤ k + rowsMost kind n)
+  unfolding drawables wordsAt
+  going-over h =
+      let none : n - i ≡ 0 = omega arith in
+      (record { leads = g .whole (rw none ends); size = g .size }, omega (arith, g .few))
+
+  module _ (h : i < n) where
+    one : n - i ≡ suc (n - (i + 1))
+    one = omega arith
+
+    pub room-for-one : rows + rowsMost kind 1 ≤ k + rowsMost kind n
+    room-for-one = omega (arith, g .few, rows-one-more kind (n - (i + 1)), ap (rowsMost kind) one)
+
+    module _ {after there : Cursor} {v : ℕ} (reads : Leads link word f after v) (jumps : there ≡ jumped next v) where
+      -- where the way so far was taken, the pointer is the next word
+      pointer-read : next .number ≡ 0 → (after .number ≡ 0) × (after .at ≡ at + 4 * (i + 1)) × (v ≡ spelt 0 (part f (at + 4 * i) 4))
+      pointer-read z =
+          let p = g .place z in
+          let live = word-live reads (p .0) (omega (arith, p .1, p .2)) in
+          let w = word-within reads live in
+          (live, omega (arith, w .0, p .1), rw (p .1) at (w .2))
+
+      jumps-there : Leads next (jump (spelt 0 (part f (at + 4 * i) 4))) f there tt
+      jumps-there = jump-to next _ (λ z. pointer-read z .2) jumps
+
+      pub going-next : {end : Cursor} {most : ℕ} {table : List ℕ} → Filled there (drawable wordLinks kind canvas (rowsIn rows new)) f new end most table → most ≤ rows + rowsMost kind 1
+          → Going f c kind canvas at n k old table end most after (i + 1)
+      unfolding drawables wordsAt
+      going-next read few = record {
+        inside = omega arith;
+        size = read .size ∙ g .size;
+        few = omega (arith, g .few, rows-one-more kind (n - (i + 1)), ap (rowsMost kind) one);
+        place = λ z.
+            let before = live-before jumps-there (live-before (read .leads) z) in
+            let p = pointer-read before in
+            (p .0, p .1, g .place before .2);
+        whole = λ l.
+            let e : at + 4 * i + 4 ≡ at + 4 * (i + 1) = omega arith in
+            g .whole (rw one (then _ jumps-there (then _ (read .leads) (rw e l))));
+      }

@@ -1,0 +1,9 @@
+pub mod Same
+pub mod Places
+pub mod Pointers
+pub mod TilesLoop
+pub mod PointersLoop
+pub mod DrawablesLoop
+pub mod Decided
+pub mod Numbers
+pub mod ReadDepends

@@ -1,0 +1,11 @@
+use mathlib.Core.Path.{refl}
+use Rattle.xcf_read.specs.Drawable.{channelOwner}
+use Rattle.xcf_read.proofs.drawable.channel_owner.Statement.{statement}
+use Rattle.xcf_read.proofs.drawable.channel_owner.Tie as tie
+
+returns : tie.Need-returns
+unfolding channelOwner
+returns c = refl
+
+pub channel-owner-spec : {M : Type 1} → statement M
+channel-owner-spec = tie.close (tie.spec returns)

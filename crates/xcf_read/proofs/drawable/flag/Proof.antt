@@ -1,0 +1,16 @@
+use native.Mathlib.Omega.{arith}
+use borrow.Author.Tests.{eq-eqb, ne-eqb}
+use Rattle.xcf_read.specs.Drawable.{flag}
+use Rattle.xcf_read.proofs.drawable.flag.Statement.{statement}
+use Rattle.xcf_read.proofs.drawable.flag.Tie as tie
+
+returns : tie.Need-returns
+unfolding flag
+returns c = (rw (eq-eqb _ _ (c .if1 .taken)), omega arith)
+
+returns-2 : tie.Need-returns-2
+unfolding flag
+returns-2 c = (rw (ne-eqb _ _ (c .if1 .left)), omega arith)
+
+pub flag-spec : {M : Type 1} → statement M
+flag-spec = tie.close (tie.spec returns returns-2)

@@ -1,0 +1,15 @@
+use borrow.Author.Tests.{le-leb, lt-leb}
+use Rattle.xcf_read.specs.Drawable.{sideOk}
+use Rattle.xcf_read.proofs.drawable.side_ok.Statement.{statement}
+use Rattle.xcf_read.proofs.drawable.side_ok.Tie as tie
+
+returns : tie.Need-returns
+unfolding sideOk
+returns c = rw (le-leb _ _ (c .if1 .taken))
+
+returns-2 : tie.Need-returns-2
+unfolding sideOk
+returns-2 c = rw (lt-leb _ _ (c .if1 .left))
+
+pub side-ok-spec : {M : Type 1} → statement M
+side-ok-spec = tie.close (tie.spec returns returns-2)

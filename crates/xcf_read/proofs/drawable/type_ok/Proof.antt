@@ -1,0 +1,15 @@
+use borrow.Author.Tests.{le-leb, lt-leb}
+use Rattle.xcf_read.specs.Drawable.{typeOk}
+use Rattle.xcf_read.proofs.drawable.type_ok.Statement.{statement}
+use Rattle.xcf_read.proofs.drawable.type_ok.Tie as tie
+
+returns : tie.Need-returns
+unfolding typeOk
+returns c = rw (le-leb _ _ (c .if1 .taken))
+
+returns-2 : tie.Need-returns-2
+unfolding typeOk
+returns-2 c = rw (lt-leb _ _ (c .if1 .left))
+
+pub type-ok-spec : {M : Type 1} → statement M
+type-ok-spec = tie.close (tie.spec returns returns-2)

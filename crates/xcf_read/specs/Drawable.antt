@@ -1,0 +1,163 @@
+-- A layer, a mask and a channel, each with its hierarchy: their rows.
+use Prim.Native.Nat.{ℕ, _+_, _/_}
+use mathlib.Core.List.{List, [], _∷_}
+use mathlib.Core.Bool.{Bool, cond, _&&_}
+use lib.ListN.{getD}
+use lib.Dec.{leb, eqb}
+use Rattle.xcf_walk.specs.Walk.{Walk, done, here, jump, must, _>>=_, _>>_}
+use Rattle.xcf_walk.specs.Fields.{number, word, string}
+use Rattle.xcf_walk.specs.Property.{properties}
+use Rattle.xcf_walk.specs.declared.property.Properties.{Properties}
+use Rattle.xcf_table.specs.declared.Row.{Row}
+use Rattle.xcf_table.specs.Table.{Rows, addRow}
+use Rattle.xcf_tile.specs.Grid.{tileCount}
+use Rattle.xcf_read.specs.declared.drawable.Canvas.{Canvas}
+use Rattle.xcf_read.specs.declared.drawable.Fields.{Fields}
+use Rattle.xcf_read.specs.declared.drawable.Layer.{Layer}
+use Rattle.xcf_read.specs.declared.drawable.Owner.{Owner}
+use Rattle.xcf_read.specs.Hierarchy.{pointer, hierarchy}
+
+unfoldable pub sideOk : ℕ → Bool
+sideOk n = leb 1 n && leb n 16384
+
+unfoldable pub side : Walk ℕ
+side = do
+  at ← here
+  n ← word
+  must (sideOk n) 4 at
+  done n
+
+-- a side that has to be its owner's
+unfoldable pub sideLike : ℕ → Walk (Unit {0})
+sideLike v = do
+  at ← here
+  n ← side
+  must (eqb n v) 10 at
+
+-- types 0 to 5: half the type is the base type
+unfoldable pub typeOk : ℕ → ℕ → Bool
+typeOk base t = leb t 5 && eqb (t / 2) base
+
+unfoldable pub layerType : ℕ → Walk ℕ
+layerType base = do
+  at ← here
+  t ← word
+  must (typeOk base t) 10 at
+  done t
+
+-- bytes per pixel by type
+abbrev pub depths : List ℕ
+depths = 3 ∷ 4 ∷ 1 ∷ 2 ∷ 1 ∷ 2 ∷ []
+
+unfoldable pub depthOf : ℕ → ℕ
+depthOf t = getD depths t 0
+
+-- string, properties and hierarchy pointer, as every drawable has them
+unfoldable pub fields : ℕ → ℕ → Walk Fields
+fields links kind = do
+  name ← string
+  list ← here
+  p ← properties kind 0
+  h ← pointer links
+  done (record { name = name; list = list; properties = p; hierarchy = h })
+
+unfoldable pub layer : ℕ → ℕ → Walk Layer
+layer links base = do
+  width ← side
+  height ← side
+  form ← layerType base
+  x ← fields links 1
+  mask ← number links
+  done (record { width = width; height = height; form = form; fields = x; mask = mask })
+
+-- a mask or channel
+unfoldable pub channel : ℕ → Owner → Walk Fields
+channel links o = do
+  sideLike (o .width)
+  sideLike (o .height)
+  fields links (o .kind)
+
+-- 1 visible, 2 apply mask, 4 selection, 8 active, 16 group
+unfoldable pub flag : ℕ → ℕ → ℕ
+flag v bit = cond (eqb v 0) 0 bit
+
+-- 2 and 29 matter in layers, 3 and 4 in channels and masks; apply mask is always 0 without a mask
+unfoldable pub layerFlags : Properties → ℕ → ℕ
+layerFlags p mask = flag (p .visible) 1 + flag (cond (eqb mask 0) 0 (p .apply)) 2 + flag (p .active) 8 + flag (p .group) 16
+
+unfoldable pub channelFlags : Properties → ℕ
+channelFlags p = flag (p .visible) 1 + flag (p .selection) 4 + flag (p .active) 8
+
+unfoldable pub layerRow : Layer → ℕ → ℕ → Row
+layerRow x tiles k = record {
+  kind = 1;
+  width = x .width;
+  height = x .height;
+  depth = depthOf (x .form);
+  form = x .form;
+  name = x .fields .name .place;
+  size = x .fields .name .length;
+  list = x .fields .list;
+  tiles = tiles;
+  count = tileCount (x .width) (x .height);
+  opacity = x .fields .properties .opacity;
+  flags = layerFlags (x .fields .properties) (x .mask);
+  dx = x .fields .properties .dx;
+  dy = x .fields .properties .dy;
+  mode = x .fields .properties .mode;
+  owner = k;
+}
+
+unfoldable pub channelRow : Owner → Fields → ℕ → Row
+channelRow o x tiles = record {
+  kind = o .kind;
+  width = o .width;
+  height = o .height;
+  depth = 1;
+  form = 2;
+  name = x .name .place;
+  size = x .name .length;
+  list = x .list;
+  tiles = tiles;
+  count = tileCount (o .width) (o .height);
+  opacity = x .properties .opacity;
+  flags = channelFlags (x .properties);
+  dx = o .dx;
+  dy = o .dy;
+  mode = 0;
+  owner = o .row;
+}
+
+-- a mask's row takes its layer's sides and offsets; a channel has the canvas's sides and is its own owner
+unfoldable pub maskOwner : Layer → ℕ → Owner
+maskOwner x k = record { kind = 2; width = x .width; height = x .height; dx = x .fields .properties .dx; dy = x .fields .properties .dy; row = k }
+
+unfoldable pub channelOwner : Canvas → ℕ → Owner
+channelOwner c k = record { kind = 3; width = c .width; height = c .height; dx = 0; dy = 0; row = k }
+
+-- a structure's fields come before its hierarchy, and a layer's hierarchy before its mask
+unfoldable pub channelRows : ℕ → Owner → Rows → Walk Rows
+channelRows links o rows = do
+  x ← channel links o
+  jump (x .hierarchy)
+  tiles ← hierarchy links (o .width) (o .height) 1
+  done (addRow rows (channelRow o x tiles))
+
+unfoldable pub maskRows : ℕ → Layer → ℕ → Rows → Walk Rows
+maskRows links x k rows =
+    cond (eqb (x .mask) 0)
+    (done rows)
+    (do
+      jump (x .mask)
+      channelRows links (maskOwner x k) rows)
+
+unfoldable pub layerRows : ℕ → Canvas → Rows → Walk Rows
+layerRows links c rows = do
+  x ← layer links (c .base)
+  jump (x .fields .hierarchy)
+  tiles ← hierarchy links (x .width) (x .height) (depthOf (x .form))
+  maskRows links x (rows .count) (addRow rows (layerRow x tiles (rows .count)))
+
+-- the drawable of this kind at the walk's place: 1 a layer, with its mask, or 3 a channel
+unfoldable pub drawable : ℕ → ℕ → Canvas → Rows → Walk Rows
+drawable links kind c rows = cond (eqb kind 1) (layerRows links c rows) (channelRows links (channelOwner c (rows .count)) rows)

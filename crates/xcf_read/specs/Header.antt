@@ -1,0 +1,41 @@
+-- The first bytes of a file: "gimp xcf ", then the version's tag.
+use Prim.Native.Nat.{ℕ, suc}
+use mathlib.Core.List.{List, [], _∷_}
+use mathlib.Core.Bool.{Bool, true, false, cond, _&&_}
+use lib.Dec.{ltb, eqb}
+use Rattle.xcf_walk.specs.Walk.{Walk, done, bytes, here, must, _>>=_, _>>_}
+
+-- two lists are the same
+unfoldable pub same : List ℕ → List ℕ → Bool
+same [] [] = true
+same [] (y ∷ ys) = false
+same (x ∷ xs) [] = false
+same (x ∷ xs) (y ∷ ys) = eqb x y && same xs ys
+
+-- "gimp xcf "
+abbrev pub magic : List ℕ
+magic = 103 ∷ 105 ∷ 109 ∷ 112 ∷ 32 ∷ 120 ∷ 99 ∷ 102 ∷ 32 ∷ []
+
+-- "file", "v001", "v002", "v003", each with a zero: a version's number is its tag's place in the list
+abbrev pub tags : List (List ℕ)
+tags =
+    (102 ∷ 105 ∷ 108 ∷ 101 ∷ 0 ∷ [])
+    ∷ (118 ∷ 48 ∷ 48 ∷ 49 ∷ 0 ∷ [])
+    ∷ (118 ∷ 48 ∷ 48 ∷ 50 ∷ 0 ∷ [])
+    ∷ (118 ∷ 48 ∷ 48 ∷ 51 ∷ 0 ∷ [])
+    ∷ []
+
+-- where a tag stands in a list, or the list's length
+unfoldable pub versionIn : List (List ℕ) → List ℕ → ℕ
+versionIn [] tag = 0
+versionIn (t ∷ ts) tag = cond (same tag t) 0 (suc (versionIn ts tag))
+
+unfoldable pub header : Walk ℕ
+header = do
+  start ← here
+  m ← bytes 9
+  must (same m magic) 2 start
+  tagAt ← here
+  tag ← bytes 5
+  must (ltb (versionIn tags tag) 4) 3 tagAt
+  done (versionIn tags tag)

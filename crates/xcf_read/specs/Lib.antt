@@ -1,0 +1,6 @@
+pub mod Header
+pub mod Hierarchy
+pub mod Drawable
+pub mod Image
+pub mod Answer
+pub mod Parts

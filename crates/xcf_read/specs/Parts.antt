@@ -1,0 +1,57 @@
+-- Parts of private contracts.
+use Prim.Native.Nat.{ℕ, zero, suc, _+_, _*_, _≤_}
+use mathlib.Core.Path.{_≡_}
+use mathlib.Core.List.{List, [], _∷_}
+use mathlib.Core.Bool.{Bool, true, false, cond}
+use lib.ListN.{length}
+use lib.Dec.{eqb}
+use Rattle.xcf_walk.specs.declared.cursor.Cursor.{Cursor}
+use Rattle.xcf_walk.specs.Walk.{Walk, part}
+use Rattle.xcf_walk.specs.Fields.{spelt, word}
+use Rattle.xcf_walk.specs.Cursor.{Leads}
+use Rattle.xcf_table.specs.Table.{Rows, rowsIn}
+use Rattle.xcf_read.specs.declared.drawable.Fields.{Fields}
+use Rattle.xcf_read.specs.declared.drawable.Layer.{Layer}
+use Rattle.xcf_read.specs.Hierarchy.{wordLinks}
+use Rattle.xcf_read.specs.Image.{pointers}
+
+abbrev pub fileStart : Cursor
+fileStart = record { at = 0; number = 0 }
+
+-- the places of a drawable's fields are at most n, beside a refusal too
+pub record FieldsLow (x : Fields) (n : ℕ) : Type 0 where
+  pub name : x .name .place ≤ n
+  pub size : x .name .length ≤ n
+  pub list : x .list ≤ n
+
+pub record LayerLow (x : Layer) (n : ℕ) : Type 0 where
+  pub width : x .width ≤ 16384
+  pub height : x .height ≤ 16384
+  pub fields : FieldsLow (x .fields) n
+
+-- the walk w leads from c to d, and its rows are the first k of the table, which keeps its length
+pub record Filled (c : Cursor) (w : Walk Rows) (f old : List ℕ) (d : Cursor) (k : ℕ) (new : List ℕ) : Type 0 where
+  pub leads : Leads c w f d (rowsIn k new)
+  pub size : length new ≡ length old
+
+-- so many rows at most for n drawables of a kind: a layer may have a mask
+unfoldable pub rowsMost : ℕ → ℕ → ℕ
+rowsMost kind n = cond (eqb kind 1) (2 * n) n
+
+-- n words, one after another from a place on
+unfoldable pub wordsAt : List ℕ → ℕ → ℕ → List ℕ
+wordsAt f at zero = []
+wordsAt f at (suc n) = spelt 0 (part f at 4) ∷ wordsAt f (at + 4) n
+
+-- the word at c is a pointer, and one of so many that are left
+pub record Another (c : Cursor) (f : List ℕ) (left : ℕ) (d : Cursor) : Type 0 where
+  pub room : 1 ≤ left
+  pub live : d .number ≡ 0
+  pub read : Leads c word f d (spelt 0 (part f (c .at) 4))
+  pub nonzero : spelt 0 (part f (c .at) 4) ≡ 0 → ⊥
+
+-- a turn over pointers: another is read, or the walk over them ends, at a 0 or with a refusal
+pub record PointerRead (c : Cursor) (f : List ℕ) (left : ℕ) (again : Bool) (d : Cursor) : Type 0 where
+  pub within : d .number ≡ 0 → (d .at ≡ c .at + 4) × (d .at ≤ length f)
+  pub another : again ≡ true → Another c f left d
+  pub over : again ≡ false → Leads c (pointers wordLinks left) f d []

@@ -1,0 +1,110 @@
+// A drawable's hierarchy, its first level and the pointers of its tiles.
+ghost use mathlib.Core.Path.{_≡_};
+ghost use Prim.Native.Nat.{_≤_};
+ghost use mathlib.Core.Bool.{_&&_};
+ghost use lib.ListN.{length};
+ghost use lib.Dec.{ltb};
+ghost use Rattle.xcf_walk.specs.Cursor.{Leads};
+ghost use Rattle.xcf_read.specs.Hierarchy.{wordLinks, agrees, pointer, rest, tiles, hierarchy};
+use xcf_tile::grid::tile_count;
+use xcf_walk::cursor::Cursor;
+use xcf_walk::cursor::WordRead;
+
+// The place of a drawable's first tile pointer.
+pub struct PlaceRead {
+    pub place: usize,
+    pub cursor: Cursor,
+}
+
+// A word that has to be v.
+fn agrees(cursor: Cursor, file: &[u8], v: u32) -> Cursor
+    ensures { λ r. ⌜ Leads cursor (agrees v) (now (file .entry)) r tt ⌝ }
+{
+    let n = cursor.word(file);
+    n.cursor.check(n.value == v, 10, cursor.at)
+}
+
+// A pointer that is not 0.
+pub(crate) fn pointer(cursor: Cursor, file: &[u8]) -> WordRead
+    ensures { λ r. ⌜ Leads cursor (pointer wordLinks) (now (file .entry)) (r .cursor) (r .value) ⌝ }
+{
+    let p = cursor.word(file);
+    let next = p.cursor.check(p.value != 0, 9, cursor.at);
+    WordRead {
+        value: p.value,
+        cursor: next,
+    }
+}
+
+// Further pointers up to a 0.
+fn rest(cursor: Cursor, file: &[u8]) -> Cursor
+    ensures { λ r. ⌜ Leads cursor (rest wordLinks) (now (file .entry)) r tt ⌝ }
+{
+    let mut next = cursor;
+    let mut again = true;
+    while again {
+        let p = next.word(file);
+        next = p.cursor;
+        again = p.value != 0;
+    }
+    next
+}
+
+// Whether a tile pointer lies above the one before and below the file's length.
+fn between(before: u32, p: u32, end: usize) -> bool
+    ensures { λ r. ⌜ r ≡ (ltb before p && ltb p end) ⌝ }
+{
+    if before < p {
+        (p as usize) < end
+    } else {
+        false
+    }
+}
+
+// The pointers of n tiles and the closing word.
+fn tiles(cursor: Cursor, file: &[u8], n: u32) -> Cursor
+    ensures { λ r. ⌜ Leads cursor (tiles wordLinks n 0) (now (file .entry)) r tt ⌝ }
+{
+    let end = file.len();
+    let mut next = cursor;
+    let mut before: u32 = 0;
+    let mut i: u32 = 0;
+    while i < n {
+        let p = next.word(file);
+        next = p.cursor.check(between(before, p.value, end), 13, next.at);
+        if next.number != 0 {
+            return next;
+        }
+        before = p.value;
+        i += 1;
+    }
+    let zero = next.word(file);
+    zero.cursor.check(zero.value == 0, 13, next.at)
+}
+
+// A hierarchy and its first level, for a drawable of these sides and this depth.
+pub(crate) fn hierarchy(
+    cursor: Cursor,
+    file: &[u8],
+    width: u32,
+    height: u32,
+    depth: u32,
+) -> PlaceRead
+    requires { ⌜ (width ≤ 16384) × (height ≤ 16384) ⌝ }
+    ensures { λ r. ⌜ Leads cursor (hierarchy wordLinks width height depth) (now (file .entry)) (r .cursor) (r .place) ⌝ }
+    ensures { λ r. ⌜ r .place ≤ length (now (file .entry)) ⌝ }
+{
+    let first = agrees(cursor, file, width);
+    let second = agrees(first, file, height);
+    let third = agrees(second, file, depth);
+    let level = pointer(third, file);
+    let fourth = rest(level.cursor, file);
+    let fifth = fourth.jump(level.value as usize);
+    let sixth = agrees(fifth, file, width);
+    let seventh = agrees(sixth, file, height);
+    let count = tile_count(width, height) as u32;
+    PlaceRead {
+        place: seventh.place(),
+        cursor: tiles(seventh, file, count),
+    }
+}

@@ -1,0 +1,227 @@
+// The image, and all that it points to.
+ghost use mathlib.Core.Path.{_≡_};
+ghost use Prim.Native.Nat.{_+_, _*_, _≤_};
+ghost use mathlib.Core.Bool.{cond};
+ghost use lib.ListN.{length};
+ghost use lib.Dec.{eqb};
+ghost use Rattle.xcf_walk.specs.Cursor.{Leads};
+ghost use Rattle.xcf_table.specs.Table.{tableSize, rowsIn};
+ghost use Rattle.xcf_read.specs.Hierarchy.{wordLinks};
+ghost use Rattle.xcf_read.specs.Image.{baseOk, baseType, head, pointers, canvasOf, drawables, image};
+ghost use Rattle.xcf_read.specs.Parts.{fileStart, Filled, rowsMost, wordsAt, PointerRead};
+use crate::drawable::Canvas;
+use crate::drawable::RowsRead;
+use crate::drawable::drawable;
+use crate::drawable::side;
+use crate::header::header;
+use xcf_walk::cursor::Cursor;
+use xcf_walk::cursor::WordRead;
+use xcf_walk::cursor::start;
+
+// What stands before the pointers.
+pub struct Head {
+    pub version: u32,
+    pub width: u32,
+    pub height: u32,
+    pub base: u32,
+    pub compression: u32,
+}
+
+pub struct HeadRead {
+    pub head: Head,
+    pub cursor: Cursor,
+}
+
+// How many pointers were read.
+pub struct PointersRead {
+    pub count: u32,
+    pub cursor: Cursor,
+}
+
+// Whether another pointer follows.
+struct PointerTurn {
+    again: bool,
+    cursor: Cursor,
+}
+
+pub struct ImageRead {
+    pub head: Head,
+    pub rows: u32,
+    pub cursor: Cursor,
+}
+
+fn base_ok(version: u32, base: u32) -> bool
+    ensures { λ r. ⌜ r ≡ baseOk version base ⌝ }
+{
+    if 2 < base {
+        return false;
+    }
+    if version == 0 {
+        return base != 2;
+    }
+    true
+}
+
+fn base_type(cursor: Cursor, file: &[u8], version: u32) -> WordRead
+    ensures { λ r. ⌜ Leads cursor (baseType version) (now (file .entry)) (r .cursor) (r .value) ⌝ }
+{
+    let base = cursor.word(file);
+    let next = base.cursor
+        .check(base_ok(version, base.value), 5, cursor.at);
+    WordRead {
+        value: base.value,
+        cursor: next,
+    }
+}
+
+// 1 for an indexed image.
+fn unmapped(base: u32) -> u32
+    ensures { λ r. ⌜ r ≡ cond (eqb base 2) 1 0 ⌝ }
+{
+    if base == 2 { 1 } else { 0 }
+}
+
+fn read_head(file: &[u8]) -> HeadRead
+    ensures { λ r. ⌜ Leads fileStart head (now (file .entry)) (r .cursor) (r .head) ⌝ }
+    ensures { λ r. ⌜ (r .head .width ≤ 16384) × (r .head .height ≤ 16384) ⌝ }
+{
+    let version = header(start(0), file);
+    let width = side(version.cursor, file);
+    let height = side(width.cursor, file);
+    let base = base_type(height.cursor, file, version.version);
+    let p = base.cursor.properties(file, 0, unmapped(base.value));
+    let next = p.cursor;
+    HeadRead {
+        head: Head {
+            version: version.version,
+            width: width.value,
+            height: height.value,
+            base: base.value,
+            compression: p.properties.compression,
+        },
+        cursor: next,
+    }
+}
+
+// One pointer, where so many more are allowed.
+fn pointer_turn(cursor: Cursor, file: &[u8], left: u32) -> PointerTurn
+    ensures { λ r. ⌜ PointerRead cursor (now (file .entry)) left (r .again) (r .cursor) ⌝ }
+{
+    let p = cursor.word(file);
+    if p.value == 0 {
+        let next = p.cursor;
+        return PointerTurn {
+            again: false,
+            cursor: next,
+        };
+    }
+    let next = p.cursor.check(0 < left, 8, cursor.at);
+    PointerTurn {
+        again: next.number == 0,
+        cursor: next,
+    }
+}
+
+// Pointers closed by 0, at most so many.
+fn pointers(cursor: Cursor, file: &[u8], most: u32) -> PointersRead
+    ensures { λ r. ⌜ Leads cursor (pointers wordLinks most) (now (file .entry)) (r .cursor) (wordsAt (now (file .entry)) (cursor .at) (r .count)) ⌝ }
+    ensures { λ r. ⌜ (r .count ≤ most) × (r .cursor .number ≡ 0 → cursor .at + 4 * r .count ≤ length (now (file .entry))) ⌝ }
+{
+    let mut next = cursor;
+    let mut count: u32 = 0;
+    let mut again = true;
+    while again {
+        let turn = pointer_turn(next, file, most - count);
+        next = turn.cursor;
+        again = turn.again;
+        if again {
+            count += 1;
+        }
+    }
+    PointersRead {
+        count,
+        cursor: next,
+    }
+}
+
+// The drawables whose n pointers stand at a place, behind the k rows of the table.
+fn drawables(
+    cursor: Cursor,
+    file: &[u8],
+    table: &mut [u32],
+    kind: u32,
+    c: Canvas,
+    at: usize,
+    n: u32,
+    k: u32,
+) -> RowsRead
+    requires { ⌜ (length (now file) ≤ 1073741824) × (c .width ≤ 16384) × (c .height ≤ 16384) ⌝ }
+    requires { ⌜ (n ≤ 48) × (k + rowsMost kind n ≤ 128) × (length (now table) ≡ tableSize) ⌝ }
+    requires { ⌜ (cursor .number ≡ 0 → at + 4 * n ≤ length (now file)) ⌝ }
+    ensures { λ r. ⌜ Filled cursor (drawables wordLinks kind c (wordsAt (now (file .entry)) at n) (rowsIn k (now (table .entry)))) (now (file .entry)) (now (table .entry)) (r .cursor) (r .rows) (now (table .exit)) ⌝ }
+    ensures { λ r. ⌜ r .rows ≤ k + rowsMost kind n ⌝ }
+{
+    let mut next = cursor;
+    let mut rows = k;
+    let mut link = start(at);
+    let mut i: u32 = 0;
+    while i < n {
+        let p = link.word(file);
+        link = p.cursor;
+        let there = next.jump(p.value as usize);
+        let read = drawable(there, file, table, kind, c, rows);
+        next = read.cursor;
+        rows = read.rows;
+        i += 1;
+    }
+    RowsRead { rows, cursor: next }
+}
+
+fn canvas_of(h: Head) -> Canvas
+    ensures { λ r. ⌜ r ≡ canvasOf h ⌝ }
+{
+    Canvas {
+        width: h.width,
+        height: h.height,
+        base: h.base,
+    }
+}
+
+// The rows go into the table from its start.
+pub(crate) fn image(file: &[u8], table: &mut [u32]) -> ImageRead
+    requires { ⌜ (length (now file) ≤ 1073741824) × (length (now table) ≡ tableSize) ⌝ }
+    ensures { λ r. ⌜ Leads fileStart (image wordLinks) (now (file .entry)) (r .cursor) (record { head = r .head; rows = rowsIn (r .rows) (now (table .exit)) }) ⌝ }
+    ensures { λ r. ⌜ (r .rows ≤ 128) × (length (now (table .exit)) ≡ tableSize) ⌝ }
+{
+    let read = read_head(file);
+    let h = read.head;
+    let layers = pointers(read.cursor, file, 48);
+    let channels = pointers(layers.cursor, file, 32);
+    let c = canvas_of(h);
+    let first = drawables(
+        channels.cursor,
+        file,
+        table,
+        1,
+        c,
+        read.cursor.at,
+        layers.count,
+        0,
+    );
+    let all = drawables(
+        first.cursor,
+        file,
+        table,
+        3,
+        c,
+        layers.cursor.at,
+        channels.count,
+        first.rows,
+    );
+    let next = all.cursor;
+    ImageRead {
+        head: h,
+        rows: all.rows,
+        cursor: next,
+    }
+}

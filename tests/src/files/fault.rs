@@ -1,0 +1,184 @@
+//! Files with a single fault, whose refusal is known from how it was made.
+
+use super::block::{Field, FieldKind, set_word, word_at};
+use super::builder::{BuiltFile, VERSIONS};
+use crate::answer::{
+    BAD_BASE, BAD_CONTENT, BAD_SIDE, BAD_TILE_POINTER, DISAGREES, FLOATING_SELECTION, NOT_XCF,
+    PAST_END, PROPERTY_LENGTH, TOO_MANY, UNENDED_STRING, UNKNOWN_VERSION, ZERO_POINTER,
+};
+use crate::random::Random;
+
+/// A number, and the place that it stands at.
+pub type Refused = (u64, usize);
+
+/// Writes a fault over the field and gives the refusal, which nothing before
+/// the field on the walk can forestall; `None` where the field has no fault
+/// of its own.
+pub fn spoil(random: &mut Random, built: &mut BuiltFile, index: usize) -> Option<Refused> {
+    let field = built.fields[index];
+    match field.kind {
+        FieldKind::Magic | FieldKind::Version => Some(spoil_start(random, built, field)),
+        FieldKind::NameEnd => {
+            built.bytes[field.place] = random.between(1, 255) as u8;
+            Some((UNENDED_STRING, built.fields[index - 1].place))
+        }
+        FieldKind::Compression => {
+            built.bytes[field.place] = random.between(2, 255) as u8;
+            Some((BAD_CONTENT, field.place))
+        }
+        FieldKind::MapType => spoil_map_type(random, built, field),
+        _ => {
+            let (value, number, place) = faulty_word(random, built, field)?;
+            set_word(&mut built.bytes, field.place, value);
+            Some((number, place))
+        }
+    }
+}
+
+/// Changes a byte of the first 9, or of the version such that none is left.
+fn spoil_start(random: &mut Random, built: &mut BuiltFile, field: Field) -> Refused {
+    let place = field.place + random.below(field.length);
+    built.bytes[place] ^= random.between(1, 255) as u8;
+    if field.kind == FieldKind::Magic {
+        return (NOT_XCF, 0);
+    }
+    if VERSIONS.contains(&&built.bytes[9..14]) {
+        built.bytes[13] = random.between(1, 255) as u8;
+    }
+    (UNKNOWN_VERSION, 9)
+}
+
+/// Makes an indexed image's only colour map another property; the fault is
+/// found at the end of the list, which is the file's first.
+fn spoil_map_type(random: &mut Random, built: &mut BuiltFile, field: Field) -> Option<Refused> {
+    let maps = built.fields.iter().filter(|f| f.kind == FieldKind::MapType);
+    if maps.count() > 1 || word_at(&built.bytes, 22) != 2 {
+        return None;
+    }
+    let end = built.fields.iter().find(|f| f.kind == FieldKind::ListEnd)?;
+    let place = end.place;
+    set_word(
+        &mut built.bytes,
+        field.place,
+        random.pick(&[18, 21, 1 << 24 | 1]),
+    );
+    Some((BAD_CONTENT, place))
+}
+
+/// A word that is a fault in the field, the number, and its place.
+fn faulty_word(random: &mut Random, built: &BuiltFile, field: Field) -> Option<(u32, u64, usize)> {
+    let place = field.place;
+    let old = word_at(&built.bytes, place);
+    let (value, number) = match field.kind {
+        FieldKind::CanvasSide | FieldKind::LayerSide => (bad_side(random), BAD_SIDE),
+        FieldKind::OwnedSide if random.one_in(2) => (bad_side(random), BAD_SIDE),
+        FieldKind::OwnedSide => (other_side(random, old), DISAGREES),
+        FieldKind::Base => (bad_base(random, built), BAD_BASE),
+        FieldKind::LayerType => (other_type(random, old), DISAGREES),
+        FieldKind::LayerWordType => (5, FLOATING_SELECTION),
+        FieldKind::FixedLength | FieldKind::MapLength => (other(random, old), PROPERTY_LENGTH),
+        FieldKind::MapCount if random.one_in(2) => (above(random, 256), BAD_CONTENT),
+        FieldKind::Opacity => (above(random, 255), BAD_CONTENT),
+        FieldKind::Switch => (above(random, 1), BAD_CONTENT),
+        FieldKind::FullPointersEnd => (above(random, 0), TOO_MANY),
+        FieldKind::HierarchySide | FieldKind::LevelSide | FieldKind::Depth => {
+            (other(random, old), DISAGREES)
+        }
+        FieldKind::HierarchyPointer | FieldKind::LevelPointer if random.one_in(2) => {
+            (0, ZERO_POINTER)
+        }
+        FieldKind::FirstTile | FieldKind::NextTile => {
+            (bad_tile(random, built, field), BAD_TILE_POINTER)
+        }
+        FieldKind::ClosingWord => (above(random, 0), BAD_TILE_POINTER),
+        _ => return displaced_fault(random, built, field),
+    };
+    Some((value, number, place))
+}
+
+/// The same for the fields whose fault is found elsewhere.
+fn displaced_fault(
+    random: &mut Random,
+    built: &BuiltFile,
+    field: Field,
+) -> Option<(u32, u64, usize)> {
+    let place = field.place;
+    let length = built.bytes.len();
+    match field.kind {
+        FieldKind::NameLength | FieldKind::FreeLength => {
+            let room = (length - place - 4) as u32;
+            Some((above(random, room), PAST_END, place + 4))
+        }
+        FieldKind::MapCount => {
+            let old = word_at(&built.bytes, place);
+            let count = (old % 257 + random.between(1, 256) as u32) % 257;
+            Some((count, PROPERTY_LENGTH, place - 4))
+        }
+        FieldKind::LayerPointer
+        | FieldKind::ChannelPointer
+        | FieldKind::HierarchyPointer
+        | FieldKind::MaskPointer
+        | FieldKind::NoMask
+        | FieldKind::LevelPointer => {
+            let value = above(random, length as u32 - 4);
+            Some((value, PAST_END, value as usize))
+        }
+        _ => None,
+    }
+}
+
+/// A number above `limit`: the next one, a near one, or any.
+fn above(random: &mut Random, limit: u32) -> u32 {
+    let any = random.between(limit as usize + 1, u32::MAX as usize) as u32;
+    let near = limit.saturating_add(random.between(1, 5) as u32);
+    random.pick(&[limit + 1, near, any, u32::MAX])
+}
+
+/// A number other than `old`: a neighbour, one that differs in a byte, or any.
+fn other(random: &mut Random, old: u32) -> u32 {
+    let any = old ^ random.between(1, u32::MAX as usize) as u32;
+    let byte = old ^ (random.between(1, 255) as u32) << (8 * random.below(4));
+    random.pick(&[old.wrapping_add(1), old.wrapping_sub(1), byte, any])
+}
+
+fn bad_side(random: &mut Random) -> u32 {
+    if random.one_in(3) {
+        0
+    } else {
+        above(random, 16_384)
+    }
+}
+
+/// A base type that the file's version does not have.
+fn bad_base(random: &mut Random, built: &BuiltFile) -> u32 {
+    let least = match &built.bytes[9..14] {
+        b"file\0" => 2,
+        _ => 3,
+    };
+    above(random, least - 1)
+}
+
+/// A usable side other than `old`.
+fn other_side(random: &mut Random, old: u32) -> u32 {
+    let side = random.between(1, 16_383) as u32;
+    let near = if old > 1 { old - 1 } else { 2 };
+    random.pick(&[near, if side == old { 16_384 } else { side }])
+}
+
+/// A layer type of another base type, or none.
+fn other_type(random: &mut Random, old: u32) -> u32 {
+    let mut types: Vec<u32> = (0..=5).filter(|other| other / 2 != old / 2).collect();
+    types.extend([6, 7, above(random, 5)]);
+    random.pick(&types)
+}
+
+/// A tile pointer that is 0, not above the one before, or not in the file.
+fn bad_tile(random: &mut Random, built: &BuiltFile, field: Field) -> u32 {
+    let before = match field.kind {
+        FieldKind::NextTile => word_at(&built.bytes, field.place - 4),
+        _ => 0,
+    };
+    let below = random.between(0, before as usize) as u32;
+    let beyond = above(random, built.bytes.len() as u32 - 1);
+    random.pick(&[0, before, below, beyond])
+}

@@ -1,0 +1,52 @@
+//! The reference: reading a whole file into a table of rows, written for
+//! clarity.
+
+mod cursor;
+mod drawable;
+mod image;
+mod property;
+
+use crate::answer::{
+    FILE_LIMIT, FILE_TOO_LONG, ROW_LENGTH, ReadAnswer, TABLE_LENGTH, WRONG_LENGTH,
+};
+use image::Image;
+
+/// Why a file is refused, and where in it the fault stands.
+#[derive(Clone, Copy, Debug, PartialEq, Eq)]
+struct Refusal {
+    number: u64,
+    place: usize,
+}
+
+/// Reads a file; the table takes a row for each drawable.
+pub fn read(file: &[u8], table: &mut [u32]) -> ReadAnswer {
+    if table.len() != TABLE_LENGTH {
+        return ReadAnswer::refused(WRONG_LENGTH, 0);
+    }
+    if file.len() > FILE_LIMIT {
+        return ReadAnswer::refused(FILE_TOO_LONG, 0);
+    }
+    table.fill(0);
+    match Image::read(file) {
+        Ok(image) => {
+            for (row, read) in table.chunks_mut(ROW_LENGTH).zip(&image.rows) {
+                row.copy_from_slice(read);
+            }
+            accepted(&image)
+        }
+        Err(refusal) => ReadAnswer::refused(refusal.number, refusal.place),
+    }
+}
+
+fn accepted(image: &Image) -> ReadAnswer {
+    ReadAnswer {
+        number: 0,
+        place: 0,
+        width: image.width.into(),
+        height: image.height.into(),
+        base: image.base.into(),
+        version: image.version.into(),
+        compression: image.compression.into(),
+        rows: image.rows.len() as u64,
+    }
+}

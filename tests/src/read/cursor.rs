@@ -1,0 +1,91 @@
+//! A moving place in a file, from which a structure is read front to back.
+
+use super::Refusal;
+use crate::answer::{BAD_SIDE, PAST_END, UNENDED_STRING};
+
+/// A word and the place where it stands.
+#[derive(Clone, Copy)]
+pub struct Word {
+    pub value: u32,
+    pub place: usize,
+}
+
+impl Word {
+    /// The word itself if `holds`; else it is refused where it stands.
+    pub fn tested(self, holds: bool, number: u64) -> Result<Word, Refusal> {
+        if holds {
+            Ok(self)
+        } else {
+            Err(Refusal {
+                number,
+                place: self.place,
+            })
+        }
+    }
+}
+
+/// The place of a name's bytes, and their number without the closing zero.
+pub struct Name {
+    pub place: usize,
+    pub count: usize,
+}
+
+pub struct Cursor<'a> {
+    file: &'a [u8],
+    place: usize,
+}
+
+impl<'a> Cursor<'a> {
+    pub fn new(file: &'a [u8], place: u32) -> Self {
+        Cursor {
+            file,
+            place: place as usize,
+        }
+    }
+
+    pub fn place(&self) -> usize {
+        self.place
+    }
+
+    /// The next `count` bytes.
+    pub fn bytes(&mut self, count: usize) -> Result<&'a [u8], Refusal> {
+        let end = self.place + count;
+        let bytes = self.file.get(self.place..end).ok_or(Refusal {
+            number: PAST_END,
+            place: self.place,
+        })?;
+        self.place = end;
+        Ok(bytes)
+    }
+
+    /// The next four bytes as a number, high byte first.
+    pub fn word(&mut self) -> Result<Word, Refusal> {
+        let place = self.place;
+        let value = number(self.bytes(4)?);
+        Ok(Word { value, place })
+    }
+
+    /// A word that is a usable side.
+    pub fn side(&mut self) -> Result<Word, Refusal> {
+        let word = self.word()?;
+        word.tested((1..=16_384).contains(&word.value), BAD_SIDE)
+    }
+
+    /// A length word and so many bytes, the last of which is zero.
+    pub fn string(&mut self) -> Result<Name, Refusal> {
+        let length = self.word()?;
+        let place = self.place;
+        let bytes = self.bytes(length.value as usize)?;
+        length.tested(matches!(bytes, [] | [.., 0]), UNENDED_STRING)?;
+        Ok(Name {
+            place,
+            count: bytes.len().saturating_sub(1),
+        })
+    }
+}
+
+/// The number that up to four bytes hold, high byte first.
+pub fn number(bytes: &[u8]) -> u32 {
+    let append = |high, &byte| high << 8 | u32::from(byte);
+    bytes.iter().fold(0, append)
+}

@@ -1,0 +1,284 @@
+//! Compares the library's reader with the reference: equal answers, equal
+//! tables.
+
+use std::collections::BTreeMap;
+
+use xcf_compare::answer::{FILE_LIMIT, FILE_TOO_LONG, NOT_XCF, ReadAnswer, TABLE_LENGTH};
+use xcf_compare::files::{EXAMPLE, FileCase, Kind, Known, random_case, random_file};
+use xcf_compare::random::Random;
+use xcf_compare::{library, read, report};
+
+const FILES_SEED: u64 = 0x6669_6C65_7300_0001;
+const CUTS_SEED: u64 = 0x6375_7473_0000_0001;
+const FILE_CASES: usize = 60_000;
+
+/// Numbers around a lent table, none of which may change.
+const GUARD: usize = 16;
+
+/// The refusals that a file of a usable length can meet.
+const NUMBERS: [u64; 14] = [1, 2, 3, 4, 5, 6, 7, 8, 9, 10, 11, 12, 13, 16];
+
+/// `table` with guards before and behind.
+fn guarded(table: &[u32]) -> Vec<u32> {
+    [&[0x3C3C_3C3C; GUARD], table, &[0xC3C3_C3C3; GUARD]].concat()
+}
+
+/// The lent table between its guards.
+fn lent(buffer: &mut [u32]) -> &mut [u32] {
+    let end = buffer.len() - GUARD;
+    &mut buffer[GUARD..end]
+}
+
+/// Where two tables differ first, if they do.
+fn difference(one: &[u32], other: &[u32]) -> Option<usize> {
+    assert_eq!(one.len(), other.len());
+    (0..one.len()).find(|&place| one[place] != other[place])
+}
+
+/// Reads with both and asserts that all is equal; gives the answer and the
+/// table.
+fn read_both(case: &FileCase) -> (ReadAnswer, Vec<u32>) {
+    let mut ours = guarded(&case.table);
+    let mut theirs = ours.clone();
+    let expected = read::read(&case.file, lent(&mut ours));
+    let given = library::read(&case.file, lent(&mut theirs));
+    assert_eq!(given, expected, "{}", case.summary());
+    assert_eq!(difference(&theirs, &ours), None, "{}", case.summary());
+    (expected, lent(&mut ours).to_vec())
+}
+
+/// Asserts that an answer and a table are the known ones.
+fn assert_known(case: &FileCase, known: &Known, answer: ReadAnswer, table: &[u32]) {
+    let mut expected = case.table.clone();
+    if expected.len() == TABLE_LENGTH {
+        expected.fill(0);
+        let used = known.rows.concat();
+        expected[..used.len()].copy_from_slice(&used);
+    }
+    assert_eq!(answer, known.answer, "{}", case.summary());
+    assert_eq!(difference(table, &expected), None, "{}", case.summary());
+}
+
+/// How many files of each kind came to each number.
+#[derive(Default)]
+struct Tally {
+    counts: BTreeMap<(Kind, u64), usize>,
+}
+
+impl Tally {
+    fn add(&mut self, kind: Kind, number: u64) {
+        *self.counts.entry((kind, number)).or_default() += 1;
+    }
+
+    /// Files of all kinds with the number.
+    fn all(&self, number: u64) -> usize {
+        let matching = self.counts.iter().filter(|(key, _)| key.1 == number);
+        matching.map(|(_, count)| count).sum()
+    }
+
+    /// Files of one kind with the number.
+    fn of(&self, kind: Kind, number: u64) -> usize {
+        self.counts.get(&(kind, number)).copied().unwrap_or(0)
+    }
+
+    /// Prints, for each kind, how many files came to each number.
+    fn report(&self, title: &str) {
+        let mut lines: BTreeMap<Kind, String> = BTreeMap::new();
+        for ((kind, number), count) in &self.counts {
+            let line = lines.entry(*kind).or_default();
+            line.push_str(&match number {
+                0 => format!(" {count} accepted"),
+                number => format!(" {count} refused {number}"),
+            });
+        }
+        for (kind, line) in lines {
+            report(&format!("{title}, {kind:?}:{line}"));
+        }
+    }
+}
+
+#[test]
+fn files_agree() {
+    let mut random = Random::new(FILES_SEED);
+    let mut tally = Tally::default();
+    let (mut known_cases, mut rows, mut full_tables) = (0, 0, 0);
+    for _ in 0..FILE_CASES {
+        let case = random_case(&mut random);
+        let (answer, table) = read_both(&case);
+        if let Some(known) = &case.known {
+            assert_known(&case, known, answer, &table);
+            known_cases += 1;
+        }
+        rows += answer.rows;
+        full_tables += usize::from(answer.rows == 128);
+        tally.add(case.kind, answer.number);
+    }
+    tally.report("read");
+    let accepted = tally.all(0);
+    report(&format!(
+        "read: {FILE_CASES} files, {accepted} accepted with {rows} rows, {known_cases} known \
+         beforehand, {full_tables} full tables"
+    ));
+    assert_varied(&tally);
+    assert!(known_cases >= 25_000 && rows >= 80_000 && full_tables >= 50);
+}
+
+/// Asserts that every outcome is there often enough to be worth running, and
+/// that each kind of damage comes to several.
+fn assert_varied(tally: &Tally) {
+    assert!((12_000..45_000).contains(&tally.all(0)));
+    let sum: usize = NUMBERS.iter().map(|&number| tally.all(number)).sum();
+    assert_eq!(sum + tally.all(0), FILE_CASES);
+    for number in NUMBERS {
+        assert!(tally.all(number) >= 50, "{number}: {}", tally.all(number));
+    }
+    for kind in [
+        Kind::Byte,
+        Kind::Word,
+        Kind::Cut,
+        Kind::Shifted,
+        Kind::Fields,
+    ] {
+        let seen = NUMBERS.iter().filter(|&&number| tally.of(kind, number) > 0);
+        assert!(seen.count() >= 2, "{kind:?}");
+        assert!(tally.of(kind, 0) > 0, "{kind:?}");
+    }
+    for number in NUMBERS.into_iter().filter(|&number| number != 11) {
+        assert!(tally.of(Kind::Fault, number) >= 20, "{number}");
+    }
+    assert!(tally.of(Kind::Words, 0) >= 50);
+}
+
+/// A case with a file that was made by hand.
+fn file_case(file: Vec<u8>) -> FileCase {
+    FileCase {
+        kind: Kind::Byte,
+        file,
+        table: vec![0xA5A5_A5A5; TABLE_LENGTH],
+        known: None,
+    }
+}
+
+/// The example with each of its bytes set to every value.
+#[test]
+fn every_byte_of_the_example_agrees() {
+    let mut tally = Tally::default();
+    for place in 0..EXAMPLE.len() {
+        for value in 0..=255 {
+            let mut file = EXAMPLE.to_vec();
+            file[place] = value;
+            let (answer, _) = read_both(&file_case(file));
+            tally.add(Kind::Byte, answer.number);
+        }
+    }
+    tally.report("every byte");
+    assert!(tally.all(0) >= 1_000 && tally.all(1) >= 1_000);
+    for number in [2, 3, 4, 5, 6, 7, 9, 10, 12, 13] {
+        assert!(tally.all(number) > 0, "{number}");
+    }
+}
+
+/// Every word of the example, at every place, set to each limit and its
+/// neighbours.
+#[test]
+fn every_word_of_the_example_agrees() {
+    let length = EXAMPLE.len() as u32;
+    let mut values = vec![16_383, 16_384, 16_385, 1 << 31, u32::MAX];
+    values.extend(0..30);
+    values.extend(length - 5..=length + 1);
+    for place in 0..EXAMPLE.len() - 3 {
+        for value in &values {
+            let mut file = EXAMPLE.to_vec();
+            file[place..place + 4].copy_from_slice(&value.to_be_bytes());
+            read_both(&file_case(file));
+        }
+    }
+}
+
+/// Random valid files cut at every length: only the whole file is surely
+/// accepted, and the rest end in a 1 or in a tile pointer beyond the end.
+#[test]
+fn every_cut_agrees() {
+    let mut random = Random::new(CUTS_SEED);
+    let mut tally = Tally::default();
+    for _ in 0..40 {
+        let built = random_file(&mut random);
+        let (answer, _) = read_both(&file_case(built.bytes.clone()));
+        assert_eq!(answer, built.known.answer);
+        for length in 0..built.bytes.len().min(2_000) {
+            let (answer, _) = read_both(&file_case(built.bytes[..length].to_vec()));
+            assert!([0, 1, 13].contains(&answer.number), "{length}: {answer:?}");
+            tally.add(Kind::Cut, answer.number);
+        }
+    }
+    tally.report("every cut");
+    assert!(tally.all(1) >= 5_000 && tally.all(13) >= 500);
+}
+
+/// The example in front of so many zero bytes that the file has the length.
+fn padded_example(length: usize) -> Vec<u8> {
+    // Memory that is zero from the start is not touched before it is used.
+    let mut file = vec![0; length];
+    file[..EXAMPLE.len()].copy_from_slice(&EXAMPLE);
+    file
+}
+
+/// Reads with the reference and with the library, each with its own table.
+fn read_long(file: &[u8], table_length: usize) -> [(ReadAnswer, Vec<u32>); 2] {
+    [read::read, library::read].map(|read| {
+        let mut table = vec![0xA5A5_A5A5; table_length];
+        (read(file, &mut table), table)
+    })
+}
+
+/// A file is too long from one byte above the limit on; a table of the wrong
+/// length is found first, and both leave the table as lent.
+#[test]
+fn file_limit() {
+    let mut file = padded_example(FILE_LIMIT + 1);
+    for (answer, table) in read_long(&file, TABLE_LENGTH) {
+        assert_eq!(answer, ReadAnswer::refused(FILE_TOO_LONG, 0));
+        assert!(table == [0xA5A5_A5A5; TABLE_LENGTH]);
+    }
+    for (answer, table) in read_long(&file, TABLE_LENGTH - 1) {
+        assert_eq!(answer, ReadAnswer::refused(11, 0));
+        assert!(table == [0xA5A5_A5A5; TABLE_LENGTH - 1]);
+    }
+    file.truncate(FILE_LIMIT);
+    // The only tile may be the last byte.
+    file[133..137].copy_from_slice(&(FILE_LIMIT as u32 - 1).to_be_bytes());
+    for (answer, table) in read_long(&file, TABLE_LENGTH) {
+        assert_eq!((answer.number, answer.place, answer.rows), (0, 0, 1));
+        assert_eq!(table[..2], [3, 1]);
+    }
+    file[133..137].copy_from_slice(&(FILE_LIMIT as u32).to_be_bytes());
+    for (answer, table) in read_long(&file, TABLE_LENGTH) {
+        assert_eq!(answer, ReadAnswer::refused(13, 133));
+        assert!(table == [0; TABLE_LENGTH]);
+    }
+    file[0] = 0;
+    for (answer, _) in read_long(&file, TABLE_LENGTH) {
+        assert_eq!(answer, ReadAnswer::refused(NOT_XCF, 0));
+    }
+}
+
+/// A channel with the largest sides: 65,536 tile pointers, of which the first
+/// or the last may be bad.
+#[test]
+fn largest_sides() {
+    let mut file = EXAMPLE[..133].to_vec();
+    for place in [14, 18, 55, 59, 105, 109, 125, 129] {
+        file[place..place + 4].copy_from_slice(&16_384_u32.to_be_bytes());
+    }
+    file.extend((1..=65_536_u32).flat_map(u32::to_be_bytes));
+    file.extend([0; 4]);
+    let (answer, table) = read_both(&file_case(file.clone()));
+    assert_eq!((answer.number, answer.width, answer.rows), (0, 16_384, 1));
+    assert_eq!(table[8..10], [133, 65_536]);
+    for (place, value) in [(133, 0), (262_273, 65_535), (262_277, 1)] {
+        let mut file = file.clone();
+        file[place..place + 4].copy_from_slice(&u32::to_be_bytes(value));
+        let (answer, _) = read_both(&file_case(file));
+        assert_eq!(answer, ReadAnswer::refused(13, place));
+    }
+}
