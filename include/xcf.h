@@ -74,11 +74,13 @@ typedef struct {
 } xcf_read_answer;
 
 /* Reads a file into a table of exactly 2,048 numbers: 128 rows of 16, one for each layer, directly behind it its mask, and
- * then one for each channel. Unused rows are zero. 11 and 15 leave the table as lent; any other refusal makes it zero.
- * A row: 0 kind (1 layer, 2 mask, 3 channel); 1 width; 2 height; 3 bytes per pixel; 4 type; 5 place of the name's bytes;
- * 6 their number; 7 place of the properties; 8 place of the first tile pointer; 9 tile count; 10 opacity; 11 flags
- * (1 visible, 2 apply mask, 4 selection, 8 active, 16 group); 12 and 13 offsets; 14 mode; 15 the owning layer's row for a
- * mask, else its own. */
+ * then one for each channel. Unused rows are zero. 11, then 15, are tested before all else, have place 0 and leave the
+ * table as lent; any other refusal makes it zero.
+ * A row: 0 kind (1 layer, 2 mask, 3 channel); 1 width; 2 height; 3 bytes per pixel; 4 type (2 for a mask or channel);
+ * 5 place of the name's bytes; 6 their number; 7 place of the properties; 8 place of the first tile pointer; 9 tile count;
+ * 10 opacity; 11 flags (1 visible, 2 apply mask, 4 selection, 8 active, 16 group); 12 and 13 offsets as stored, two's
+ * complement (a mask has its layer's, a channel 0); 14 mode (0 for a mask or channel); 15 the owning layer's row for a mask,
+ * else its own. */
 xcf_read_answer xcf_read(const uint8_t *file, size_t file_length, uint32_t *table, size_t table_length);
 
 #ifdef __cplusplus

@@ -1,7 +1,10 @@
 //! Measures the library's decoder and encoder against plain Rust ones, in one
-//! run, on 4,096 tiles of 64 by 64 pixels.
+//! run, on 4,096 tiles of 64 by 64 pixels; then its reader, on whole files.
 
+mod files;
 mod plain;
+mod plain_read;
+mod reading;
 
 use std::hint::black_box;
 use std::time::Instant;
@@ -149,4 +152,6 @@ fn main() {
             tiles.compare_encoders();
         }
     }
+    println!();
+    reading::compare_readers();
 }

@@ -3,7 +3,7 @@
 
 use std::collections::BTreeMap;
 
-use xcf_compare::answer::{FILE_LIMIT, FILE_TOO_LONG, NOT_XCF, ReadAnswer, TABLE_LENGTH};
+use xcf_compare::answer::{FILE_LIMIT, FILE_TOO_LONG, NOT_XCF, ReadAnswer, Row, TABLE_LENGTH};
 use xcf_compare::files::{EXAMPLE, FileCase, Kind, Known, random_case, random_file};
 use xcf_compare::random::Random;
 use xcf_compare::{library, read, report};
@@ -47,14 +47,19 @@ fn read_both(case: &FileCase) -> (ReadAnswer, Vec<u32>) {
     (expected, lent(&mut ours).to_vec())
 }
 
+/// The table with these rows and no others.
+fn table_of(rows: &[Row]) -> Vec<u32> {
+    let mut table = rows.concat();
+    table.resize(TABLE_LENGTH, 0);
+    table
+}
+
 /// Asserts that an answer and a table are the known ones.
 fn assert_known(case: &FileCase, known: &Known, answer: ReadAnswer, table: &[u32]) {
-    let mut expected = case.table.clone();
-    if expected.len() == TABLE_LENGTH {
-        expected.fill(0);
-        let used = known.rows.concat();
-        expected[..used.len()].copy_from_slice(&used);
-    }
+    let expected = match case.table.len() {
+        TABLE_LENGTH => table_of(&known.rows),
+        _ => case.table.clone(),
+    };
     assert_eq!(answer, known.answer, "{}", case.summary());
     assert_eq!(difference(table, &expected), None, "{}", case.summary());
 }
@@ -247,9 +252,10 @@ fn file_limit() {
     file.truncate(FILE_LIMIT);
     // The only tile may be the last byte.
     file[133..137].copy_from_slice(&(FILE_LIMIT as u32 - 1).to_be_bytes());
+    let row = [3, 1, 1, 1, 2, 67, 1, 69, 133, 1, 255, 1, 0, 0, 0, 0];
     for (answer, table) in read_long(&file, TABLE_LENGTH) {
         assert_eq!((answer.number, answer.place, answer.rows), (0, 0, 1));
-        assert_eq!(table[..2], [3, 1]);
+        assert_eq!(difference(&table, &table_of(&[row])), None);
     }
     file[133..137].copy_from_slice(&(FILE_LIMIT as u32).to_be_bytes());
     for (answer, table) in read_long(&file, TABLE_LENGTH) {
@@ -262,6 +268,11 @@ fn file_limit() {
     }
 }
 
+/// Words as bytes.
+fn words(words: impl IntoIterator<Item = u32>) -> Vec<u8> {
+    words.into_iter().flat_map(u32::to_be_bytes).collect()
+}
+
 /// A channel with the largest sides: 65,536 tile pointers, of which the first
 /// or the last may be bad.
 #[test]
@@ -270,8 +281,8 @@ fn largest_sides() {
     for place in [14, 18, 55, 59, 105, 109, 125, 129] {
         file[place..place + 4].copy_from_slice(&16_384_u32.to_be_bytes());
     }
-    file.extend((1..=65_536_u32).flat_map(u32::to_be_bytes));
-    file.extend([0; 4]);
+    file.extend(words(1..=65_536));
+    file.extend(words([0]));
     let (answer, table) = read_both(&file_case(file.clone()));
     assert_eq!((answer.number, answer.width, answer.rows), (0, 16_384, 1));
     assert_eq!(table[8..10], [133, 65_536]);
@@ -281,4 +292,62 @@ fn largest_sides() {
         let (answer, _) = read_both(&file_case(file));
         assert_eq!(answer, ReadAnswer::refused(13, place));
     }
+}
+
+/// A grey file with the largest sides that has all pointers lead to one
+/// layer, at 362, and to one channel, at 394, which is also the layer's mask;
+/// they share a hierarchy, at 418, and its level, at 438.
+fn most_shared() -> Vec<u8> {
+    let side = 16_384;
+    let mut file = b"gimp xcf file\0".to_vec();
+    file.extend(words([side, side, 1, 0, 0]));
+    file.extend(words([362; 48]));
+    file.extend(words([0]));
+    file.extend(words([394; 32]));
+    file.extend(words([0]));
+    file.extend(words([side, side, 2, 0, 0, 0, 418, 394]));
+    file.extend(words([side, side, 0, 0, 0, 418]));
+    file.extend(words([side, side, 1, 438, 0]));
+    file.extend(words([side, side]));
+    file.extend(words(1..=65_536));
+    file.extend(words([0]));
+    file
+}
+
+/// The rows of `most_shared`: 48 layers, each with a mask, and 32 channels.
+fn most_shared_rows() -> Vec<Row> {
+    let row = |kind, place, flags, owner| {
+        [
+            kind, 16_384, 16_384, 1, 2, place, 0, place, 446, 65_536, 255, flags, 0, 0, 0, owner,
+        ]
+    };
+    let layers = (0..96).step_by(2);
+    let mut rows: Vec<Row> = layers
+        .flat_map(|owner| [row(1, 378, 3, owner), row(2, 406, 0, owner)])
+        .collect();
+    rows.extend((96..128).map(|own| row(3, 406, 0, own)));
+    rows
+}
+
+/// The most rows with the most tiles in a small file: all 128 walk over the
+/// same 65,536 tile pointers.
+#[test]
+fn most_sharing() {
+    let case = file_case(most_shared());
+    assert_eq!(case.file.len(), 262_594);
+    let (answer, table) = read_both(&case);
+    let known = Known {
+        answer: ReadAnswer {
+            number: 0,
+            place: 0,
+            width: 16_384,
+            height: 16_384,
+            base: 1,
+            version: 0,
+            compression: 0,
+            rows: 128,
+        },
+        rows: most_shared_rows(),
+    };
+    assert_known(&case, &known, answer, &table);
 }

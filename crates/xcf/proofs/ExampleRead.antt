@@ -1,29 +1,27 @@
 -- The example file of document 01 is read: the rules at its bytes are computed.
 -- Assumes nothing.
 use mathlib.Core.Path.{_≡_, refl}
-use mathlib.Core.List.{[], _∷_}
-use lib.Dec.{eqb}
 use borrow.Author.Tests.{eq-eqb}
 use Rattle.xcf_walk.specs.Walk.{got, run, bytes, here, must, fileLength, jump, loop, turns}
-use Rattle.xcf_walk.specs.Fields.{spelt, number, word, string}
-use Rattle.xcf_walk.specs.Property.{lengthOk, wordOf, contentOf, payload, isColourMap, content, property, isFloating, lacksMap, greatest, activeType, put, propertyTurn, properties}
+use Rattle.xcf_walk.specs.Fields.{bigEndian, number, word, string}
+use Rattle.xcf_walk.specs.Property.{lengthOk, wordOf, contentOf, payload, isColourMap, content, property, isFloating, lacksMap, allowed, activeType, put, propertyTurn, properties}
 use Rattle.xcf_table.specs.Table.{addRow, tableOf}
 use Rattle.xcf_read.specs.Header.{same, versionIn, header}
-use Rattle.xcf_read.specs.Hierarchy.{wordLinks, agrees, pointer, restTurn, rest, tiles, hierarchy}
-use Rattle.xcf_read.specs.Drawable.{sideOk, side, sideLike, fields, channel, flag, channelFlags, channelRow, channelOwner, channelRows, drawable}
+use Rattle.xcf_read.specs.Hierarchy.{pointerSize, agrees, pointer, restTurn, rest, tiles, hierarchy}
+use Rattle.xcf_read.specs.Drawable.{sideOk, side, sideLike, fields, channel, flag, channelFlags, channelRow, channelOwner, channelRows, canvasChannelRows}
 use Rattle.xcf_read.specs.Image.{baseOk, baseType, head, pointers, drawables, canvasOf, image}
-use Rattle.xcf_read.specs.Answer.{readAnswer, readTable}
+use Rattle.xcf_read.specs.Answer.{reading}
 use Rattle.xcf.specs.ExampleFile.{exampleFile, exampleRow}
 use Rattle.xcf.specs.Statements.{ExampleFileIsRead}
 
-walked : run (image wordLinks) exampleFile 0
+walked : run (image pointerSize) exampleFile 0
     ≡ got (record {
       head = record { version = 0; width = 1; height = 1; base = 1; compression = 1 };
       rows = record { count = 1; numbers = exampleRow };
     }) 141
-unfolding run bytes here must fileLength jump loop turns spelt number word string lengthOk wordOf contentOf payload isColourMap content property isFloating lacksMap greatest activeType put propertyTurn properties addRow same versionIn header agrees pointer restTurn rest tiles hierarchy sideOk side sideLike fields channel flag channelFlags channelRow channelOwner channelRows drawable baseOk baseType head pointers drawables canvasOf image
+unfolding run bytes here must fileLength jump loop turns bigEndian number word string lengthOk wordOf contentOf payload isColourMap content property isFloating lacksMap allowed activeType put propertyTurn properties addRow same versionIn header agrees pointer restTurn rest tiles hierarchy sideOk side sideLike fields channel flag channelFlags channelRow channelOwner channelRows canvasChannelRows baseOk baseType head pointers drawables canvasOf image
 walked = refl
 
 pub example-read : ExampleFileIsRead
-unfolding readAnswer readTable tableOf
-example-read table size = (rw (eq-eqb _ _ size, walked), rw (eq-eqb _ _ size, walked))
+unfolding reading tableOf
+example-read table size = rw (eq-eqb _ _ size, walked)

@@ -13,21 +13,29 @@ use Rattle.xcf_encode.specs.Segment.{leading, equalBytes, copiedBytes, firstSeg
 use Rattle.xcf_encode.proofs.Bound.{bound}
 use Rattle.xcf_encode.proofs.ReadBack.{stream-read-back}
 use Rattle.xcf_encode.proofs.TileReadBack.{tile-bound, tile-read-back}
+use Rattle.xcf_walk.proofs.Depends.{outcome-depends}
+use Rattle.xcf_read.proofs.Accepted.{accepted-exactly}
 use Rattle.xcf_read.proofs.ReadDepends.{read-depends}
 use Rattle.xcf_read.proofs.Numbers.{refusals-listed}
 use Rattle.xcf.proofs.ExampleRead.{example-read}
-use Rattle.xcf.specs.Statements.{ExamplesHold, StructureBytesDecide, RefusalsAreListed, ExampleFileIsRead, ConsumedBytesDecide, ConsumedBytesDecideTheCall, PixelsAreStreams, PixelsAreWhole, MarkedPixelsAreZero, EncodedStreamBounded, StreamReadsBack, TileReadsBack, EncodedTileFits}
+use Rattle.xcf.specs.Statements.{ExamplesHold, PassedBytesDecide, StructureBytesDecide, RefusalsAreListed, AcceptedWithoutFault, ExampleFileIsRead, ConsumedBytesDecide, ConsumedBytesDecideTheCall, PixelsAreStreams, PixelsAreWhole, MarkedPixelsAreZero, EncodedStreamBounded, StreamReadsBack, TileReadsBack, EncodedTileFits}
 
 pub examples-hold : ExamplesHold
 unfolding headOf headAt operationOf operationAt streamFrom streamWithin streamAt streamsAt pixel interleave encodedTile tileIn tileOf leading equalBytes copiedBytes firstSegment segmentsWithin segments written writtenAll encodeStream
 examples-hold =
     (refl, (refl, (refl, (refl, (refl, (refl, (refl, (refl, (refl, (refl, (refl, (refl, ((refl, (refl, refl)), tt)))))))))))))
 
+pub passed-bytes-decide : PassedBytesDecide
+passed-bytes-decide A = outcome-depends
+
 pub structure-bytes-decide : StructureBytesDecide
 structure-bytes-decide = read-depends
 
 pub refusals-are-listed : RefusalsAreListed
 refusals-are-listed = refusals-listed
+
+pub accepted-without-fault : AcceptedWithoutFault
+accepted-without-fault = accepted-exactly
 
 pub example-file-is-read : ExampleFileIsRead
 example-file-is-read = example-read

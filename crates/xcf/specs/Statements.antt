@@ -10,11 +10,11 @@ use Rattle.xcf_tile.specs.declared.TileAnswer.{TileAnswer}
 use Rattle.xcf_tile.specs.Answer.{Decoded}
 use Rattle.xcf_encode.specs.Segment.{segments, encodeStream}
 use Rattle.xcf_encode.specs.Tile.{planes, operationsOf, encodeTile}
-use Rattle.xcf_walk.specs.Walk.{refused, run}
+use Rattle.xcf_walk.specs.Walk.{Walk, got, refused, run, PassedOver}
 use Rattle.xcf_table.specs.Table.{rowSize, tableSize}
-use Rattle.xcf_read.specs.Hierarchy.{wordLinks}
-use Rattle.xcf_read.specs.Image.{image, structureByte}
-use Rattle.xcf_read.specs.Answer.{refusals, listed, readAnswer, readTable}
+use Rattle.xcf_read.specs.Hierarchy.{pointerSize}
+use Rattle.xcf_read.specs.Image.{Image, image, structureByte}
+use Rattle.xcf_read.specs.Answer.{fileLimit, refusals, listed, reading}
 use Rattle.xcf.specs.ExampleFile.{exampleFile, exampleRow}
 use Rattle.xcf.specs.Examples.{table, All}
 
@@ -22,23 +22,40 @@ use Rattle.xcf.specs.Examples.{table, All}
 abbrev pub ExamplesHold : Type 0
 ExamplesHold = All table
 
--- What the reader answers and leaves in the table depends on the file's length and its structure bytes, and on nothing else.
+-- What any walk gives depends on the file's length and on the bytes that it passes over.
+abbrev pub PassedBytesDecide : Type 1
+PassedBytesDecide =
+    (A : Type 0) (w : Walk A) (file other : List ℕ) (at : ℕ) → length file ≡ length other
+    → ((i : ℕ) → PassedOver w file at i → getD file i 0 ≡ getD other i 0)
+    → run w file at ≡ run w other at
+
+-- So for one lent table, what the reader answers and leaves there depends on the file's length and its structure bytes.
 abbrev pub StructureBytesDecide : Type 0
 StructureBytesDecide =
     (file other table : List ℕ) → length file ≡ length other
     → ((i : ℕ) → structureByte file i → getD file i 0 ≡ getD other i 0)
-    → (readAnswer file table ≡ readAnswer other table) × (readTable file table ≡ readTable other table)
+    → reading file table ≡ reading other table
 
 -- A refusal of the walk has a number of document 01.
 abbrev pub RefusalsAreListed : Type 0
-RefusalsAreListed = (file : List ℕ) (n p : ℕ) → refused n p ≡ run (image wordLinks) file 0 → listed refusals n ≡ true
+RefusalsAreListed = (file : List ℕ) (n p : ℕ) → refused n p ≡ run (image pointerSize) file 0 → listed refusals n ≡ true
+
+-- A file that is not too long, with a table of the right length, is accepted exactly when the walk meets no fault.
+abbrev pub AcceptedWithoutFault : Type 0
+AcceptedWithoutFault =
+    (file table : List ℕ) → length table ≡ tableSize → length file ≤ fileLimit
+    → (reading file table .answer .number ≡ 0 → (x : Image) × (q : ℕ) × (got x q ≡ run (image pointerSize) file 0))
+    × ((x : Image) (q : ℕ) → got x q ≡ run (image pointerSize) file 0 → reading file table .answer .number ≡ 0)
 
 -- The example file of document 01 is accepted with its canvas and its row.
 abbrev pub ExampleFileIsRead : Type 0
 ExampleFileIsRead =
     (table : List ℕ) → length table ≡ tableSize
-    → (readAnswer exampleFile table ≡ record { number = 0; place = 0; width = 1; height = 1; base = 1; version = 0; compression = 1; rows = 1 })
-    × (readTable exampleFile table ≡ exampleRow ++ replicate (tableSize - rowSize) 0)
+    → reading exampleFile table
+    ≡ record {
+      answer = record { number = 0; place = 0; width = 1; height = 1; base = 1; version = 0; compression = 1; rows = 1 };
+      table = exampleRow ++ replicate (tableSize - rowSize) 0;
+    }
 
 -- A good tile depends only on the bytes it consumed: another window that has them first gives the same tile.
 abbrev pub ConsumedBytesDecide : Type 0

@@ -14,19 +14,19 @@ use Rattle.xcf_walk.proofs.Resume.{is-live, is-refused}
 use Rattle.xcf_table.specs.Table.{tableSize, clearFrom, rowsIn}
 use Rattle.xcf_table.proofs.Puts.{cleared-table}
 use Rattle.xcf_read.specs.declared.image.Head.{Head}
-use Rattle.xcf_read.specs.Hierarchy.{wordLinks}
+use Rattle.xcf_read.specs.Hierarchy.{pointerSize}
 use Rattle.xcf_read.specs.Image.{Image, image}
-use Rattle.xcf_read.specs.Answer.{fileLimit, refusal, answerOf, tableAfter, readAnswer, readTable, Read}
+use Rattle.xcf_read.specs.Answer.{fileLimit, refusal, readingOf, reading, Read}
 use Rattle.xcf_read.specs.Parts.{fileStart}
 
 module _ {f old : List ℕ} {end : Cursor} {h : Head} {k : ℕ} (t : List ℕ) (size : length old ≡ tableSize) (small : length f ≤ fileLimit)
-    (l : Leads fileStart (image wordLinks) f end (record { head = h; rows = rowsIn k t })) where
-  decided : {o : Outcome Image} → outcome end (record { head = h; rows = rowsIn k t }) ≡ o → Read f old (answerOf o) (tableAfter o)
-  unfolding resume readAnswer readTable
+    (l : Leads fileStart (image pointerSize) f end (record { head = h; rows = rowsIn k t })) where
+  decided : {o : Outcome Image} → outcome end (record { head = h; rows = rowsIn k t }) ≡ o → Read f old (readingOf o .answer) (readingOf o .table)
+  unfolding resume reading
   decided e = record { answer = rw (eq-eqb _ _ size, le-leb _ _ small, ← l .gives, e); table = rw (eq-eqb _ _ size, le-leb _ _ small, ← l .gives, e) }
 
   module _ {new : List ℕ} (kept : length t ≡ tableSize) where
-    pub accepted : end .number ≡ 0 → k ≤ 128 → new ≡ clearFrom t k → Read f old (answerOf (got (record { head = h; rows = rowsIn k t }) (end .at))) new
+    pub accepted : end .number ≡ 0 → k ≤ 128 → new ≡ clearFrom t k → Read f old (readingOf (got (record { head = h; rows = rowsIn k t }) (end .at)) .answer) new
     unfolding outcome
     accepted live few cleared = rw (cleared, cleared-table t k kept (omega arith)) (decided (is-live end _ _ live))
 

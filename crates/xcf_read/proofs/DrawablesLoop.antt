@@ -12,17 +12,16 @@ use lib.Dec.{eqb}
 use lib.ListN.{length}
 use Rattle.xcf_walk.specs.declared.cursor.Cursor.{Cursor}
 use Rattle.xcf_walk.specs.Walk.{got, refused, part, run, bytes, jump}
-use Rattle.xcf_walk.specs.Fields.{spelt, number, word}
+use Rattle.xcf_walk.specs.Fields.{bigEndian, number, word}
 use Rattle.xcf_walk.specs.Cursor.{jumped, outcome, resume, Leads}
 use Rattle.xcf_walk.proofs.Walks.{got-not-refused}
 use Rattle.xcf_walk.proofs.Resume.{then, ends, by-jump, is-live, live-same}
 use Rattle.xcf_walk.proofs.Within.{live-before, word-within}
 use Rattle.xcf_table.specs.Table.{Rows, rowsIn}
 use Rattle.xcf_read.specs.declared.drawable.Canvas.{Canvas}
-use Rattle.xcf_read.specs.Hierarchy.{wordLinks}
-use Rattle.xcf_read.specs.Drawable.{drawable}
+use Rattle.xcf_read.specs.Hierarchy.{pointerSize}
 use Rattle.xcf_read.specs.Image.{drawables}
-use Rattle.xcf_read.specs.Parts.{Filled, rowsMost, wordsAt}
+use Rattle.xcf_read.specs.Parts.{drawable, Filled, rowsMost, wordsAt}
 
 -- a jump from a refusal keeps it, so that its place counts only where the cursor is live
 jump-to : (c : Cursor) {d : Cursor} {f : List ℕ} (p : ℕ) {q : ℕ} → (c .number ≡ 0 → q ≡ p) → d ≡ jumped c q → Leads c (jump p) f d tt
@@ -34,7 +33,7 @@ word-live : {c d : Cursor} {f : List ℕ} {v : ℕ} → Leads c word f d v → c
 unfolding outcome resume run bytes number word
 word-live {c} {d} {f} {v} l h fits = go (eqb (d .number) 0) refl (l .gives ∙ is-live c _ _ h ∙ rw (le-leb _ _ fits))
   where
-    go : (t : Bool) → eqb (d .number) 0 ≡ t → cond t (got v (d .at)) (refused (d .number) (d .at)) ≡ got (spelt 0 (part f (c .at) 4)) (c .at + 4) → d .number ≡ 0
+    go : (t : Bool) → eqb (d .number) 0 ≡ t → cond t (got v (d .at)) (refused (d .number) (d .at)) ≡ got (bigEndian 0 (part f (c .at) 4)) (c .at + 4) → d .number ≡ 0
     go true e1 e2 = eqb-true _ _ e1
     go false e1 e2 = absurd (got-not-refused (sym e2))
 
@@ -54,8 +53,8 @@ module _ (f : List ℕ) (c : Cursor) (kind : ℕ) (canvas : Canvas) (at n k : �
     pub size : length new ≡ length old
     pub few : rows + rowsMost kind (n - i) ≤ k + rowsMost kind n
     pub place : next .number ≡ 0 → (link .number ≡ 0) × (link .at ≡ at + 4 * i) × (at + 4 * n ≤ length f)
-    pub whole : {d : Cursor} {all : Rows} → Leads next (drawables wordLinks kind canvas (wordsAt f (at + 4 * i) (n - i)) (rowsIn rows new)) f d all
-        → Leads c (drawables wordLinks kind canvas (wordsAt f at n) (rowsIn k old)) f d all
+    pub whole : {d : Cursor} {all : Rows} → Leads next (drawables (drawable pointerSize kind canvas) (wordsAt f (at + 4 * i) (n - i)) (rowsIn rows new)) f d all
+        → Leads c (drawables (drawable pointerSize kind canvas) (wordsAt f at n) (rowsIn k old)) f d all
 
 pub going-start : {f : List ℕ} {c : Cursor} {kind : ℕ} {canvas : Canvas} {at n k : ℕ} {old : List ℕ} {link : Cursor}
     → link ≡ record { at = at; number = 0 } → (c .number ≡ 0 → at + 4 * n ≤ length f) → Going f c kind canvas at n k old old c k link 0
@@ -69,7 +68,7 @@ going-start e fits = record {
 
 module _ {f : List ℕ} {c : Cursor} {kind : ℕ} {canvas : Canvas} {at n k : ℕ} {old new : List ℕ} {next : Cursor} {rows : ℕ} {link : Cursor} {i : ℕ}
     (g : Going f c kind canvas at n k old new next rows link i) where
-  pub going-over : n ≤ i → Filled c (drawables wordLinks kind canvas (wordsAt f at n) (rowsIn k old)) f old next rows new × (rows ≤ k + rowsMost kind n)
+  pub going-over : n ≤ i → Filled c (drawables (drawable pointerSize kind canvas) (wordsAt f at n) (rowsIn k old)) f old next rows new × (rows ≤ k + rowsMost kind n)
   unfolding drawables wordsAt
   going-over h =
       let none : n - i ≡ 0 = omega arith in
@@ -84,17 +83,17 @@ module _ {f : List ℕ} {c : Cursor} {kind : ℕ} {canvas : Canvas} {at n k : �
 
     module _ {after there : Cursor} {v : ℕ} (reads : Leads link word f after v) (jumps : there ≡ jumped next v) where
       -- where the way so far was taken, the pointer is the next word
-      pointer-read : next .number ≡ 0 → (after .number ≡ 0) × (after .at ≡ at + 4 * (i + 1)) × (v ≡ spelt 0 (part f (at + 4 * i) 4))
+      pointer-read : next .number ≡ 0 → (after .number ≡ 0) × (after .at ≡ at + 4 * (i + 1)) × (v ≡ bigEndian 0 (part f (at + 4 * i) 4))
       pointer-read z =
           let p = g .place z in
           let live = word-live reads (p .0) (omega (arith, p .1, p .2)) in
           let w = word-within reads live in
           (live, omega (arith, w .0, p .1), rw (p .1) at (w .2))
 
-      jumps-there : Leads next (jump (spelt 0 (part f (at + 4 * i) 4))) f there tt
+      jumps-there : Leads next (jump (bigEndian 0 (part f (at + 4 * i) 4))) f there tt
       jumps-there = jump-to next _ (λ z. pointer-read z .2) jumps
 
-      pub going-next : {end : Cursor} {most : ℕ} {table : List ℕ} → Filled there (drawable wordLinks kind canvas (rowsIn rows new)) f new end most table → most ≤ rows + rowsMost kind 1
+      pub going-next : {end : Cursor} {most : ℕ} {table : List ℕ} → Filled there (drawable pointerSize kind canvas (rowsIn rows new)) f new end most table → most ≤ rows + rowsMost kind 1
           → Going f c kind canvas at n k old table end most after (i + 1)
       unfolding drawables wordsAt
       going-next read few = record {

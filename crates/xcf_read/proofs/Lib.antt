@@ -6,4 +6,5 @@ pub mod PointersLoop
 pub mod DrawablesLoop
 pub mod Decided
 pub mod Numbers
+pub mod Accepted
 pub mod ReadDepends

@@ -18,8 +18,8 @@ use Rattle.xcf_read.specs.declared.drawable.Canvas.{Canvas}
 use Rattle.xcf_read.specs.declared.drawable.Layer.{Layer}
 use Rattle.xcf_read.specs.declared.drawable.Owner.{Owner}
 use Rattle.xcf_read.specs.Header.{header}
-use Rattle.xcf_read.specs.Hierarchy.{wordLinks, agrees, pointer, restTurn, rest, tiles, hierarchy}
-use Rattle.xcf_read.specs.Drawable.{side, sideLike, layerType, fields, layer, channel, channelRows, maskRows, layerRows, drawable}
+use Rattle.xcf_read.specs.Hierarchy.{pointerSize, agrees, pointer, restTurn, rest, tiles, hierarchy}
+use Rattle.xcf_read.specs.Drawable.{side, sideLike, layerType, fields, layer, channel, channelRows, maskRows, layerRows, canvasChannelRows}
 use Rattle.xcf_read.specs.Image.{baseType, head, pointers, drawables, image}
 use Rattle.xcf_read.specs.Answer.{refusals, listed}
 
@@ -76,32 +76,32 @@ numbered-agrees : (v : ℕ) → Numbered (agrees v)
 unfolding agrees listed
 numbered-agrees v = refuses-bind _ refuses-here λ at. refuses-bind _ numbered-word λ n. refuses-must _ 10 at refl
 
-numbered-pointer : (links : ℕ) → Numbered (pointer links)
+numbered-pointer : (size : ℕ) → Numbered (pointer size)
 unfolding pointer listed
-numbered-pointer links =
-    refuses-bind _ refuses-here λ at. refuses-bind _ (numbered-number links) λ p. refuses-bind _ (refuses-must _ 9 at refl) λ _. refuses-done
+numbered-pointer size =
+    refuses-bind _ refuses-here λ at. refuses-bind _ (numbered-number size) λ p. refuses-bind _ (refuses-must _ 9 at refl) λ _. refuses-done
 
-numbered-rest : Numbered (rest wordLinks)
+numbered-rest : Numbered (rest pointerSize)
 unfolding rest restTurn
 numbered-rest =
-    refuses-loop (restTurn wordLinks)
-    (λ u. refuses-bind _ (numbered-number wordLinks) λ p. refuses-done)
-    (λ u. advances-first (number wordLinks) _ (straight-bind _ (straight-number wordLinks) λ p. straight-done) (advances-number wordLinks (omega arith))) tt
+    refuses-loop (restTurn pointerSize)
+    (λ u. refuses-bind _ (numbered-number pointerSize) λ p. refuses-done)
+    (λ u. advances-first (number pointerSize) _ (straight-bind _ (straight-number pointerSize) λ p. straight-done) (advances-number pointerSize (omega arith))) tt
 
-numbered-tiles : (links n before : ℕ) → Numbered (tiles links n before)
+numbered-tiles : (size n before : ℕ) → Numbered (tiles size n before)
 unfolding tiles listed
-numbered-tiles links zero before = refuses-bind _ refuses-here λ at. refuses-bind _ (numbered-number links) λ p. refuses-must _ 13 at refl
-numbered-tiles links (suc n) before =
-    refuses-bind _ refuses-here λ at. refuses-bind _ refuses-length λ end. refuses-bind _ (numbered-number links) λ p.
-    refuses-bind _ (refuses-must _ 13 at refl) λ _. numbered-tiles links n p
+numbered-tiles size zero before = refuses-bind _ refuses-here λ at. refuses-bind _ (numbered-number size) λ p. refuses-must _ 13 at refl
+numbered-tiles size (suc n) before =
+    refuses-bind _ refuses-here λ at. refuses-bind _ refuses-length λ end. refuses-bind _ (numbered-number size) λ p.
+    refuses-bind _ (refuses-must _ 13 at refl) λ _. numbered-tiles size n p
 
-numbered-hierarchy : (width height depth : ℕ) → Numbered (hierarchy wordLinks width height depth)
+numbered-hierarchy : (width height depth : ℕ) → Numbered (hierarchy pointerSize width height depth)
 unfolding hierarchy
 numbered-hierarchy width height depth =
     refuses-bind _ (numbered-agrees width) λ _. refuses-bind _ (numbered-agrees height) λ _. refuses-bind _ (numbered-agrees depth) λ _.
-    refuses-bind _ (numbered-pointer wordLinks) λ level. refuses-bind _ numbered-rest λ _. refuses-bind _ (refuses-jump level) λ _.
+    refuses-bind _ (numbered-pointer pointerSize) λ level. refuses-bind _ numbered-rest λ _. refuses-bind _ (refuses-jump level) λ _.
     refuses-bind _ (numbered-agrees width) λ _. refuses-bind _ (numbered-agrees height) λ _. refuses-bind _ refuses-here λ place.
-    refuses-bind _ (numbered-tiles wordLinks _ 0) λ _. refuses-done
+    refuses-bind _ (numbered-tiles pointerSize _ 0) λ _. refuses-done
 
 numbered-side : Numbered side
 unfolding side listed
@@ -116,47 +116,45 @@ unfolding layerType listed
 numbered-layer-type base =
     refuses-bind _ refuses-here λ at. refuses-bind _ numbered-word λ t. refuses-bind _ (refuses-must _ 10 at refl) λ _. refuses-done
 
-numbered-fields : (kind : ℕ) → Numbered (fields wordLinks kind)
+numbered-fields : (kind : ℕ) → Numbered (fields pointerSize kind)
 unfolding fields
 numbered-fields kind =
     refuses-bind _ numbered-string λ name. refuses-bind _ refuses-here λ list. refuses-bind _ (numbered-properties kind 0) λ p.
-    refuses-bind _ (numbered-pointer wordLinks) λ h. refuses-done
+    refuses-bind _ (numbered-pointer pointerSize) λ h. refuses-done
 
-numbered-layer : (base : ℕ) → Numbered (layer wordLinks base)
+numbered-layer : (base : ℕ) → Numbered (layer pointerSize base)
 unfolding layer
 numbered-layer base =
     refuses-bind _ numbered-side λ width. refuses-bind _ numbered-side λ height. refuses-bind _ (numbered-layer-type base) λ form.
-    refuses-bind _ (numbered-fields 1) λ x. refuses-bind _ (numbered-number wordLinks) λ mask. refuses-done
+    refuses-bind _ (numbered-fields 1) λ x. refuses-bind _ (numbered-number pointerSize) λ mask. refuses-done
 
-numbered-channel-rows : (o : Owner) (rows : Rows) → Numbered (channelRows wordLinks o rows)
+numbered-channel-rows : (o : Owner) (rows : Rows) → Numbered (channelRows pointerSize o rows)
 unfolding channelRows channel
 numbered-channel-rows o rows =
     refuses-bind _ (refuses-bind _ (numbered-side-like _) λ _. refuses-bind _ (numbered-side-like _) λ _. numbered-fields _) λ x.
     refuses-bind _ (refuses-jump _) λ _. refuses-bind _ (numbered-hierarchy _ _ 1) λ tiles. refuses-done
 
-numbered-mask-rows : (x : Layer) (k : ℕ) (rows : Rows) → Numbered (maskRows wordLinks x k rows)
+numbered-mask-rows : (x : Layer) (k : ℕ) (rows : Rows) → Numbered (maskRows pointerSize x k rows)
 unfolding maskRows
 numbered-mask-rows x k rows = refuses-cond (eqb (x .mask) 0) refuses-done (refuses-bind _ (refuses-jump _) λ _. numbered-channel-rows _ rows)
 
-numbered-drawable : (kind : ℕ) (c : Canvas) (rows : Rows) → Numbered (drawable wordLinks kind c rows)
-unfolding drawable layerRows
-numbered-drawable kind c rows =
-    refuses-cond (eqb kind 1)
-    (refuses-bind _ (numbered-layer _) λ x. refuses-bind _ (refuses-jump _) λ _. refuses-bind _ (numbered-hierarchy _ _ _) λ tiles. numbered-mask-rows x _ _)
-    (numbered-channel-rows _ rows)
+numbered-layer-rows : (c : Canvas) (rows : Rows) → Numbered (layerRows pointerSize c rows)
+unfolding layerRows
+numbered-layer-rows c rows =
+    refuses-bind _ (numbered-layer _) λ x. refuses-bind _ (refuses-jump _) λ _. refuses-bind _ (numbered-hierarchy _ _ _) λ tiles. numbered-mask-rows x _ _
 
-numbered-drawables : (kind : ℕ) (c : Canvas) (ps : List ℕ) (rows : Rows) → Numbered (drawables wordLinks kind c ps rows)
+numbered-drawables : (one : Rows → Walk Rows) → ((rows : Rows) → Numbered (one rows)) → (ps : List ℕ) (rows : Rows) → Numbered (drawables one ps rows)
 unfolding drawables
-numbered-drawables kind c [] rows = refuses-done
-numbered-drawables kind c (p ∷ ps) rows =
-    refuses-bind _ (refuses-jump p) λ _. refuses-bind _ (numbered-drawable kind c rows) λ next. numbered-drawables kind c ps next
+numbered-drawables one h [] rows = refuses-done
+numbered-drawables one h (p ∷ ps) rows =
+    refuses-bind _ (refuses-jump p) λ _. refuses-bind _ (h rows) λ next. numbered-drawables one h ps next
 
-numbered-pointers : (links most : ℕ) → Numbered (pointers links most)
+numbered-pointers : (size most : ℕ) → Numbered (pointers size most)
 unfolding pointers listed
-numbered-pointers links zero =
-    refuses-bind _ refuses-here λ at. refuses-bind _ (numbered-number links) λ p. refuses-bind _ (refuses-must _ 8 at refl) λ _. refuses-done
-numbered-pointers links (suc most) =
-    refuses-bind _ (numbered-number links) λ p. refuses-cond (eqb p 0) refuses-done (refuses-bind _ (numbered-pointers links most) λ ps. refuses-done)
+numbered-pointers size zero =
+    refuses-bind _ refuses-here λ at. refuses-bind _ (numbered-number size) λ p. refuses-bind _ (refuses-must _ 8 at refl) λ _. refuses-done
+numbered-pointers size (suc most) =
+    refuses-bind _ (numbered-number size) λ p. refuses-cond (eqb p 0) refuses-done (refuses-bind _ (numbered-pointers size most) λ ps. refuses-done)
 
 numbered-base-type : (version : ℕ) → Numbered (baseType version)
 unfolding baseType listed
@@ -169,11 +167,12 @@ numbered-head =
     refuses-bind _ numbered-header λ version. refuses-bind _ numbered-side λ width. refuses-bind _ numbered-side λ height.
     refuses-bind _ (numbered-base-type version) λ base. refuses-bind _ (numbered-properties 0 _) λ p. refuses-done
 
-numbered-image : Numbered (image wordLinks)
-unfolding image
+numbered-image : Numbered (image pointerSize)
+unfolding image canvasChannelRows
 numbered-image =
-    refuses-bind _ numbered-head λ h. refuses-bind _ (numbered-pointers wordLinks 48) λ layers. refuses-bind _ (numbered-pointers wordLinks 32) λ channels.
-    refuses-bind _ (numbered-drawables 1 _ layers _) λ first. refuses-bind _ (numbered-drawables 3 _ channels first) λ all. refuses-done
+    refuses-bind _ numbered-head λ h. refuses-bind _ (numbered-pointers pointerSize 48) λ layers. refuses-bind _ (numbered-pointers pointerSize 32) λ channels.
+    refuses-bind _ (numbered-drawables _ (numbered-layer-rows _) layers _) λ first.
+    refuses-bind _ (numbered-drawables _ (λ rows. numbered-channel-rows _ rows) channels first) λ all. refuses-done
 
-pub refusals-listed : (f : List ℕ) (n p : ℕ) → refused n p ≡ run (image wordLinks) f 0 → listed refusals n ≡ true
+pub refusals-listed : (f : List ℕ) (n p : ℕ) → refused n p ≡ run (image pointerSize) f 0 → listed refusals n ≡ true
 refusals-listed f n p e = numbered-image .number f 0 e

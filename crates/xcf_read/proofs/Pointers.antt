@@ -21,7 +21,7 @@ use Rattle.xcf_walk.proofs.Within.{moves-on}
 use Rattle.xcf_walk.proofs.Resume.{then, ends}
 use Rattle.xcf_walk.proofs.Loops.{Moves}
 use Rattle.xcf_tile.specs.Grid.{tileCount, tilesAlong}
-use Rattle.xcf_read.specs.Hierarchy.{wordLinks, agrees, restTurn}
+use Rattle.xcf_read.specs.Hierarchy.{pointerSize, agrees, restTurn}
 
 straight-agrees : (v : ℕ) → Straight (agrees v)
 unfolding agrees
@@ -40,7 +40,7 @@ read-is-live {d = d} {v = v} r h = go (eqb (d .number) 0) refl (r .absent)
     go false e z = absurd (h z)
 
 module _ {c d : Cursor} {f : List ℕ} {v : ℕ} (r : Reads c word f 0 d v) where
-  pub rest-turn : Leads c (restTurn wordLinks tt) f d (turnOf (not (eqb v 0)) tt)
+  pub rest-turn : Leads c (restTurn pointerSize tt) f d (turnOf (not (eqb v 0)) tt)
   unfolding restTurn word
   rest-turn = then _ (r .leads) (rw cond-not ends)
 

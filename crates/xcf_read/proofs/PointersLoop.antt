@@ -14,22 +14,22 @@ use lib.Dec.{ltb, eqb}
 use lib.ListN.{length}
 use Rattle.xcf_walk.specs.declared.cursor.Cursor.{Cursor}
 use Rattle.xcf_walk.specs.Walk.{part}
-use Rattle.xcf_walk.specs.Fields.{spelt, word}
+use Rattle.xcf_walk.specs.Fields.{bigEndian, word}
 use Rattle.xcf_walk.specs.Cursor.{checked, Leads, Reads}
 use Rattle.xcf_walk.proofs.Resume.{then, then-here, ends, by-check}
 use Rattle.xcf_walk.proofs.Within.{word-within, check-keeps, check-live}
-use Rattle.xcf_read.specs.Hierarchy.{wordLinks}
+use Rattle.xcf_read.specs.Hierarchy.{pointerSize}
 use Rattle.xcf_read.specs.Image.{pointers}
 use Rattle.xcf_read.specs.Parts.{wordsAt, Another, PointerRead}
 use Rattle.xcf_read.proofs.Pointers.{read-is-live}
 
 module _ {c d : Cursor} {f : List ℕ} {v : ℕ} (r : Reads c word f 0 d v) where
-  none-left : {next : Cursor} {test : Bool} → test ≡ eqb v 0 → next ≡ checked d test 8 (c .at) → Leads c (pointers wordLinks 0) f next []
+  none-left : {next : Cursor} {test : Bool} → test ≡ eqb v 0 → next ≡ checked d test 8 (c .at) → Leads c (pointers pointerSize 0) f next []
   unfolding pointers word
   none-left t e = then-here _ _ (λ _. refl) (then _ (r .leads) (then _ (by-check d _ _ _ (omega arith) t e) ends))
 
   -- a 0 ends the walk, and so does a refusal, beside which stands 0
-  closed : v ≡ 0 → (left : ℕ) → Leads c (pointers wordLinks left) f d []
+  closed : v ≡ 0 → (left : ℕ) → Leads c (pointers pointerSize left) f d []
   unfolding pointers word
   closed e zero = none-left (sym (eq-eqb _ _ e)) (sym (check-live d true _ _ refl refl))
   closed e (suc left) = then _ (r .leads) (rw (eq-eqb _ _ e) ends)
@@ -43,7 +43,7 @@ module _ {c d : Cursor} {f : List ℕ} {v : ℕ} (r : Reads c word f 0 d v) wher
 
   module _ {next : Cursor} (pointer : v ≡ 0 → ⊥) where
     -- a pointer is refused where none is left
-    too-many : (left : ℕ) → next ≡ checked d (ltb 0 left) 8 (c .at) → (next .number ≡ 0 → ⊥) → Leads c (pointers wordLinks left) f next []
+    too-many : (left : ℕ) → next ≡ checked d (ltb 0 left) 8 (c .at) → (next .number ≡ 0 → ⊥) → Leads c (pointers pointerSize left) f next []
     too-many zero e h = none-left (sym (ne-eqb _ _ pointer)) e
     too-many (suc left) e h = absurd (h (ap (λ x. x .number) (check-live d _ _ _ e (lt-ltb 0 (suc left) (omega arith))) ∙ read-is-live r pointer))
 
@@ -57,27 +57,27 @@ module _ {c d : Cursor} {f : List ℕ} {v : ℕ} (r : Reads c word f 0 d v) wher
         kept : next .number ≡ 0 → (next ≡ d) × (ltb 0 left ≡ true)
         kept h = check-keeps d _ _ _ e (omega arith) h
 
-        read : (d .at ≡ c .at + 4) × (d .at ≤ length f) × (v ≡ spelt 0 (part f (c .at) 4))
+        read : (d .at ≡ c .at + 4) × (d .at ≤ length f) × (v ≡ bigEndian 0 (part f (c .at) 4))
         read = word-within (r .leads) (read-is-live r pointer)
 
 -- one word more in front of others
-words-more : (f : List ℕ) (at n : ℕ) (ps : List ℕ) → wordsAt f at (suc n) ++ ps ≡ wordsAt f at n ++ (spelt 0 (part f (at + 4 * n) 4) ∷ ps)
+words-more : (f : List ℕ) (at n : ℕ) (ps : List ℕ) → wordsAt f at (suc n) ++ ps ≡ wordsAt f at n ++ (bigEndian 0 (part f (at + 4 * n) 4) ∷ ps)
 unfolding wordsAt
 words-more f at zero ps = rw add-zero
 words-more f at (suc n) ps =
     let e : at + 4 * suc n ≡ at + 4 + 4 * n = omega arith in
-    rw e (ap (λ (l : List ℕ). spelt 0 (part f at 4) ∷ l) (words-more f (at + 4) n ps))
+    rw e (ap (λ (l : List ℕ). bigEndian 0 (part f at 4) ∷ l) (words-more f (at + 4) n ps))
 
 -- where what is left leads, the whole leads, with the words read in front
 pub record Left (f : List ℕ) (c : Cursor) (most : ℕ) (next : Cursor) (count : ℕ) : Type 0 where
   pub place : next .at ≡ c .at + 4 * count
-  pub whole : {d : Cursor} {ps : List ℕ} → Leads next (pointers wordLinks (most - count)) f d ps → Leads c (pointers wordLinks most) f d (wordsAt f (c .at) count ++ ps)
+  pub whole : {d : Cursor} {ps : List ℕ} → Leads next (pointers pointerSize (most - count)) f d ps → Leads c (pointers pointerSize most) f d (wordsAt f (c .at) count ++ ps)
 
 -- of at most so many pointers from c on count are read, and the loop goes on or is over
 pub record Going (f : List ℕ) (c : Cursor) (most : ℕ) (again : Bool) (next : Cursor) (count : ℕ) : Type 0 where
   pub inside : count ≤ most
   pub on : again ≡ true → Left f c most next count
-  pub over : again ≡ false → Leads c (pointers wordLinks most) f next (wordsAt f (c .at) count)
+  pub over : again ≡ false → Leads c (pointers pointerSize most) f next (wordsAt f (c .at) count)
   pub within : again ≡ false → next .number ≡ 0 → c .at + 4 * count ≤ length f
 
 pub going-start : {f : List ℕ} {c : Cursor} {most : ℕ} → Going f c most true c 0

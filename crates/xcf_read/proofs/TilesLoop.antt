@@ -14,7 +14,7 @@ use Rattle.xcf_walk.specs.Walk.{Walk}
 use Rattle.xcf_walk.specs.Fields.{word}
 use Rattle.xcf_walk.specs.Cursor.{Leads, outcome, resume, checked}
 use Rattle.xcf_walk.proofs.Resume.{then, then-here, then-length, by-check, is-refused}
-use Rattle.xcf_read.specs.Hierarchy.{wordLinks, tiles}
+use Rattle.xcf_read.specs.Hierarchy.{pointerSize, tiles}
 
 -- a refusal stays what it is
 stays : {A : Type 0} {c : Cursor} {w : Walk A} {f : List ℕ} {a : A} → (c .number ≡ 0 → ⊥) → Leads c w f c a
@@ -24,13 +24,13 @@ stays {c = c} h = record { gives = is-refused c _ _ h ∙ sym (is-refused c _ _ 
 -- of n tiles i are passed: where what is left leads, the whole leads
 pub record Going (f : List ℕ) (c : Cursor) (n : ℕ) (next : Cursor) (before i : ℕ) : Type 0 where
   pub inside : i ≤ n
-  pub whole : {d : Cursor} → Leads next (tiles wordLinks (n - i) before) f d tt → Leads c (tiles wordLinks n 0) f d tt
+  pub whole : {d : Cursor} → Leads next (tiles pointerSize (n - i) before) f d tt → Leads c (tiles pointerSize n 0) f d tt
 
 pub going-start : {f : List ℕ} {c : Cursor} {n : ℕ} → Going f c n c 0 0
 going-start = record { inside = omega arith; whole = λ l. rw sub-zero at l }
 
 module _ {f : List ℕ} {c : Cursor} {n : ℕ} {next : Cursor} {before i : ℕ} (g : Going f c n next before i) where
-  pub going-refused : (next .number ≡ 0 → ⊥) → Leads c (tiles wordLinks n 0) f next tt
+  pub going-refused : (next .number ≡ 0 → ⊥) → Leads c (tiles pointerSize n 0) f next tt
   going-refused h = g .whole (stays h)
 
   -- the word behind the pointers passed
@@ -43,7 +43,7 @@ module _ {f : List ℕ} {c : Cursor} {n : ℕ} {next : Cursor} {before i : ℕ} 
           g .whole (rw one (then-here _ _ (λ _. refl) (then-length _ (then _ read (then _ (by-check _ _ _ _ (omega arith) t k) l)))));
     }
 
-    pub going-over : n ≤ i → e ≡ checked d (eqb p 0) 13 (next .at) → Leads c (tiles wordLinks n 0) f e tt
+    pub going-over : n ≤ i → e ≡ checked d (eqb p 0) 13 (next .at) → Leads c (tiles pointerSize n 0) f e tt
     unfolding tiles word
     going-over h k =
         let none : n - i ≡ 0 = omega arith in

@@ -8,7 +8,7 @@ use lib.Dec.{leb, eqb}
 use Rattle.xcf_walk.specs.Walk.{Outcome, got, refused, run}
 use Rattle.xcf_table.specs.Table.{tableSize, noRows, tableOf}
 use Rattle.xcf_read.specs.declared.ReadAnswer.{ReadAnswer}
-use Rattle.xcf_read.specs.Hierarchy.{wordLinks}
+use Rattle.xcf_read.specs.Hierarchy.{pointerSize}
 use Rattle.xcf_read.specs.Image.{Image, image}
 
 abbrev pub fileLimit : ℕ
@@ -17,28 +17,34 @@ fileLimit = 1073741824
 abbrev pub refusal : ℕ → ℕ → ReadAnswer
 refusal n p = record { number = n; place = p; width = 0; height = 0; base = 0; version = 0; compression = 0; rows = 0 }
 
-abbrev pub answerOf : Outcome Image → ReadAnswer
-answerOf (got x q) = record { number = 0; place = 0; width = x .head .width; height = x .head .height; base = x .head .base; version = x .head .version; compression = x .head .compression; rows = x .rows .count }
-answerOf (refused n p) = refusal n p
+-- an answer, and the table's content beside it
+pub record Reading : Type 0 where
+  pub answer : ReadAnswer
+  pub table : List ℕ
 
--- after a refusal no row is left
-abbrev pub tableAfter : Outcome Image → List ℕ
-tableAfter (got x q) = tableOf (x .rows)
-tableAfter (refused n p) = tableOf noRows
+-- what the walk's outcome says; after a refusal no row is left
+abbrev pub readingOf : Outcome Image → Reading
+readingOf (got x q) = record {
+  answer = record {
+    number = 0;
+    place = 0;
+    width = x .head .width;
+    height = x .head .height;
+    base = x .head .base;
+    version = x .head .version;
+    compression = x .head .compression;
+    rows = x .rows .count;
+  };
+  table = tableOf (x .rows);
+}
+readingOf (refused n p) = record { answer = refusal n p; table = tableOf noRows }
 
--- 11, then 15, then the walk from place 0
-unfoldable pub readAnswer : List ℕ → List ℕ → ReadAnswer
-readAnswer file table =
+-- 11, then 15, both leaving the table as lent; then the walk from place 0
+unfoldable pub reading : List ℕ → List ℕ → Reading
+reading file table =
     cond (eqb (length table) tableSize)
-    (cond (leb (length file) fileLimit) (answerOf (run (image wordLinks) file 0)) (refusal 15 0))
-    (refusal 11 0)
-
--- 11 and 15 leave the table as lent
-unfoldable pub readTable : List ℕ → List ℕ → List ℕ
-readTable file table =
-    cond (eqb (length table) tableSize)
-    (cond (leb (length file) fileLimit) (tableAfter (run (image wordLinks) file 0)) table)
-    table
+    (cond (leb (length file) fileLimit) (readingOf (run (image pointerSize) file 0)) (record { answer = refusal 15 0; table = table }))
+    (record { answer = refusal 11 0; table = table })
 
 -- the numbers of the walk's refusals
 abbrev pub refusals : List ℕ
@@ -48,6 +54,7 @@ unfoldable pub listed : List ℕ → ℕ → Bool
 listed [] n = false
 listed (m ∷ ms) n = eqb n m || listed ms n
 
+-- the reader's promise for a file and a lent table: its answer r, and the table's new content
 pub record Read (file old : List ℕ) (r : ReadAnswer) (new : List ℕ) : Type 0 where
-  pub answer : r ≡ readAnswer file old
-  pub table : new ≡ readTable file old
+  pub answer : r ≡ reading file old .answer
+  pub table : new ≡ reading file old .table

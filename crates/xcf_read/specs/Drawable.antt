@@ -6,7 +6,7 @@ use lib.ListN.{getD}
 use lib.Dec.{leb, eqb}
 use Rattle.xcf_walk.specs.Walk.{Walk, done, here, jump, must, _>>=_, _>>_}
 use Rattle.xcf_walk.specs.Fields.{number, word, string}
-use Rattle.xcf_walk.specs.Property.{properties}
+use Rattle.xcf_walk.specs.Property.{layerList, properties}
 use Rattle.xcf_walk.specs.declared.property.Properties.{Properties}
 use Rattle.xcf_table.specs.declared.Row.{Row}
 use Rattle.xcf_table.specs.Table.{Rows, addRow}
@@ -54,28 +54,28 @@ depthOf t = getD depths t 0
 
 -- string, properties and hierarchy pointer, as every drawable has them
 unfoldable pub fields : ℕ → ℕ → Walk Fields
-fields links kind = do
+fields size kind = do
   name ← string
   list ← here
   p ← properties kind 0
-  h ← pointer links
+  h ← pointer size
   done (record { name = name; list = list; properties = p; hierarchy = h })
 
 unfoldable pub layer : ℕ → ℕ → Walk Layer
-layer links base = do
+layer size base = do
   width ← side
   height ← side
   form ← layerType base
-  x ← fields links 1
-  mask ← number links
+  x ← fields size layerList
+  mask ← number size
   done (record { width = width; height = height; form = form; fields = x; mask = mask })
 
 -- a mask or channel
 unfoldable pub channel : ℕ → Owner → Walk Fields
-channel links o = do
+channel size o = do
   sideLike (o .width)
   sideLike (o .height)
-  fields links (o .kind)
+  fields size (o .kind)
 
 -- 1 visible, 2 apply mask, 4 selection, 8 active, 16 group
 unfoldable pub flag : ℕ → ℕ → ℕ
@@ -137,27 +137,26 @@ channelOwner c k = record { kind = 3; width = c .width; height = c .height; dx =
 
 -- a structure's fields come before its hierarchy, and a layer's hierarchy before its mask
 unfoldable pub channelRows : ℕ → Owner → Rows → Walk Rows
-channelRows links o rows = do
-  x ← channel links o
+channelRows size o rows = do
+  x ← channel size o
   jump (x .hierarchy)
-  tiles ← hierarchy links (o .width) (o .height) 1
+  tiles ← hierarchy size (o .width) (o .height) 1
   done (addRow rows (channelRow o x tiles))
 
 unfoldable pub maskRows : ℕ → Layer → ℕ → Rows → Walk Rows
-maskRows links x k rows =
+maskRows size x k rows =
     cond (eqb (x .mask) 0)
     (done rows)
     (do
       jump (x .mask)
-      channelRows links (maskOwner x k) rows)
+      channelRows size (maskOwner x k) rows)
 
 unfoldable pub layerRows : ℕ → Canvas → Rows → Walk Rows
-layerRows links c rows = do
-  x ← layer links (c .base)
+layerRows size c rows = do
+  x ← layer size (c .base)
   jump (x .fields .hierarchy)
-  tiles ← hierarchy links (x .width) (x .height) (depthOf (x .form))
-  maskRows links x (rows .count) (addRow rows (layerRow x tiles (rows .count)))
+  tiles ← hierarchy size (x .width) (x .height) (depthOf (x .form))
+  maskRows size x (rows .count) (addRow rows (layerRow x tiles (rows .count)))
 
--- the drawable of this kind at the walk's place: 1 a layer, with its mask, or 3 a channel
-unfoldable pub drawable : ℕ → ℕ → Canvas → Rows → Walk Rows
-drawable links kind c rows = cond (eqb kind 1) (layerRows links c rows) (channelRows links (channelOwner c (rows .count)) rows)
+unfoldable pub canvasChannelRows : ℕ → Canvas → Rows → Walk Rows
+canvasChannelRows size c rows = channelRows size (channelOwner c (rows .count)) rows

@@ -2,6 +2,7 @@
 use Prim.Native.Nat.{ℕ, suc}
 use mathlib.Core.List.{List, [], _∷_}
 use mathlib.Core.Bool.{Bool, true, false, cond, _&&_}
+use lib.ListN.{length}
 use lib.Dec.{ltb, eqb}
 use Rattle.xcf_walk.specs.Walk.{Walk, done, bytes, here, must, _>>=_, _>>_}
 
@@ -37,5 +38,5 @@ header = do
   must (same m magic) 2 start
   tagAt ← here
   tag ← bytes 5
-  must (ltb (versionIn tags tag) 4) 3 tagAt
+  must (ltb (versionIn tags tag) (length tags)) 3 tagAt
   done (versionIn tags tag)

@@ -7,8 +7,8 @@ use Rattle.xcf_walk.specs.Fields.{number, word}
 use Rattle.xcf_tile.specs.Grid.{tileCount}
 
 -- the number of a pointer's bytes in versions 0 to 3
-abbrev pub wordLinks : ℕ
-wordLinks = 4
+abbrev pub pointerSize : ℕ
+pointerSize = 4
 
 -- a word that has to be v
 unfoldable pub agrees : ℕ → Walk (Unit {0})
@@ -19,45 +19,45 @@ agrees v = do
 
 -- a pointer of so many bytes that is not 0
 unfoldable pub pointer : ℕ → Walk ℕ
-pointer links = do
+pointer size = do
   at ← here
-  p ← number links
+  p ← number size
   must (not (eqb p 0)) 9 at
   done p
 
 -- further pointers up to a 0
 unfoldable pub restTurn : ℕ → Unit {0} → Walk (Turn (Unit {0}) (Unit {0}))
-restTurn links u = do
-  p ← number links
+restTurn size u = do
+  p ← number size
   done (cond (eqb p 0) (last tt) (more tt))
 
 unfoldable pub rest : ℕ → Walk (Unit {0})
-rest links = loop (restTurn links) tt
+rest size = loop (restTurn size) tt
 
 -- the pointers of n tiles, each above the one before and below the file's length, then 0
 unfoldable pub tiles : ℕ → ℕ → ℕ → Walk (Unit {0})
-tiles links zero before = do
+tiles size zero before = do
   at ← here
-  p ← number links
+  p ← number size
   must (eqb p 0) 13 at
-tiles links (suc n) before = do
+tiles size (suc n) before = do
   at ← here
   end ← fileLength
-  p ← number links
+  p ← number size
   must (ltb before p && ltb p end) 13 at
-  tiles links n p
+  tiles size n p
 
 -- the place of the first tile pointer
 unfoldable pub hierarchy : ℕ → ℕ → ℕ → ℕ → Walk ℕ
-hierarchy links width height depth = do
+hierarchy size width height depth = do
   agrees width
   agrees height
   agrees depth
-  level ← pointer links
-  rest links
+  level ← pointer size
+  rest size
   jump level
   agrees width
   agrees height
   place ← here
-  tiles links (tileCount width height) 0
+  tiles size (tileCount width height) 0
   done place

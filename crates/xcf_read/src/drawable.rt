@@ -4,9 +4,10 @@ ghost use Prim.Native.Nat.{_+_, _*_, _≤_, _<_};
 ghost use lib.ListN.{length};
 ghost use Rattle.xcf_walk.specs.Cursor.{Leads};
 ghost use Rattle.xcf_table.specs.Table.{rowSize, tableSize, rowsIn};
-ghost use Rattle.xcf_read.specs.Hierarchy.{wordLinks};
-ghost use Rattle.xcf_read.specs.Drawable.{sideOk, side, sideLike, typeOk, layerType, depthOf, fields, layer, channel, flag, layerFlags, channelFlags, layerRow, channelRow, maskOwner, channelOwner, channelRows, maskRows, layerRows, drawable};
-ghost use Rattle.xcf_read.specs.Parts.{FieldsLow, LayerLow, Filled, rowsMost};
+ghost use Rattle.xcf_read.specs.Hierarchy.{pointerSize};
+ghost use Rattle.xcf_read.specs.Drawable.{sideOk, side, sideLike, typeOk, layerType, depthOf, fields, layer, channel, flag, layerFlags, channelFlags, layerRow, channelRow, maskOwner, channelOwner, channelRows, maskRows, layerRows};
+ghost use Rattle.xcf_read.specs.Answer.{fileLimit};
+ghost use Rattle.xcf_read.specs.Parts.{drawable, FieldsLow, LayerLow, Filled, rowsMost};
 use crate::hierarchy::hierarchy;
 use crate::hierarchy::pointer;
 use xcf_table::Row;
@@ -129,7 +130,7 @@ fn depth_of(t: u32) -> u32
 }
 
 fn read_fields(cursor: Cursor, file: &[u8], kind: u32) -> FieldsRead
-    ensures { λ r. ⌜ Leads cursor (fields wordLinks kind) (now (file .entry)) (r .cursor) (r .fields) ⌝ }
+    ensures { λ r. ⌜ Leads cursor (fields pointerSize kind) (now (file .entry)) (r .cursor) (r .fields) ⌝ }
     ensures { λ r. ⌜ FieldsLow (r .fields) (length (now (file .entry))) ⌝ }
 {
     let name = cursor.string(file);
@@ -151,7 +152,7 @@ fn read_fields(cursor: Cursor, file: &[u8], kind: u32) -> FieldsRead
 }
 
 fn read_layer(cursor: Cursor, file: &[u8], base: u32) -> LayerRead
-    ensures { λ r. ⌜ Leads cursor (layer wordLinks base) (now (file .entry)) (r .cursor) (r .layer) ⌝ }
+    ensures { λ r. ⌜ Leads cursor (layer pointerSize base) (now (file .entry)) (r .cursor) (r .layer) ⌝ }
     ensures { λ r. ⌜ LayerLow (r .layer) (length (now (file .entry))) ⌝ }
 {
     let width = side(cursor, file);
@@ -174,7 +175,7 @@ fn read_layer(cursor: Cursor, file: &[u8], base: u32) -> LayerRead
 }
 
 fn read_channel(cursor: Cursor, file: &[u8], o: Owner) -> FieldsRead
-    ensures { λ r. ⌜ Leads cursor (channel wordLinks o) (now (file .entry)) (r .cursor) (r .fields) ⌝ }
+    ensures { λ r. ⌜ Leads cursor (channel pointerSize o) (now (file .entry)) (r .cursor) (r .fields) ⌝ }
     ensures { λ r. ⌜ FieldsLow (r .fields) (length (now (file .entry))) ⌝ }
 {
     let first = side_like(cursor, file, o.width);
@@ -202,7 +203,7 @@ fn channel_flags(p: Properties) -> u32
 }
 
 fn layer_row(x: Layer, tiles: usize, k: u32) -> Row
-    requires { ⌜ (tiles ≤ 1073741824) × LayerLow x 1073741824 ⌝ }
+    requires { ⌜ (tiles ≤ fileLimit) × LayerLow x fileLimit ⌝ }
     ensures { λ r. ⌜ r ≡ layerRow x tiles k ⌝ }
 {
     let own = x.fields;
@@ -228,7 +229,7 @@ fn layer_row(x: Layer, tiles: usize, k: u32) -> Row
 }
 
 fn channel_row(o: Owner, x: Fields, tiles: usize) -> Row
-    requires { ⌜ (tiles ≤ 1073741824) × (o .width ≤ 16384) × (o .height ≤ 16384) × FieldsLow x 1073741824 ⌝ }
+    requires { ⌜ (tiles ≤ fileLimit) × (o .width ≤ 16384) × (o .height ≤ 16384) × FieldsLow x fileLimit ⌝ }
     ensures { λ r. ⌜ r ≡ channelRow o x tiles ⌝ }
 {
     let p = x.properties;
@@ -254,9 +255,9 @@ fn channel_row(o: Owner, x: Fields, tiles: usize) -> Row
 
 // The row of a mask or channel becomes row k. After a refusal the row means nothing.
 fn channel_rows(cursor: Cursor, file: &[u8], table: &mut [u32], o: Owner, k: u32) -> RowsRead
-    requires { ⌜ (length (now file) ≤ 1073741824) × (o .width ≤ 16384) × (o .height ≤ 16384) ⌝ }
+    requires { ⌜ (length (now file) ≤ fileLimit) × (o .width ≤ 16384) × (o .height ≤ 16384) ⌝ }
     requires { ⌜ (k < 128) × (rowSize * (k + 1) ≤ length (now table)) ⌝ }
-    ensures { λ r. ⌜ Filled cursor (channelRows wordLinks o (rowsIn k (now (table .entry)))) (now (file .entry)) (now (table .entry)) (r .cursor) (r .rows) (now (table .exit)) ⌝ }
+    ensures { λ r. ⌜ Filled cursor (channelRows pointerSize o (rowsIn k (now (table .entry)))) (now (file .entry)) (now (table .entry)) (r .cursor) (r .rows) (now (table .exit)) ⌝ }
     ensures { λ r. ⌜ r .rows ≡ k + 1 ⌝ }
 {
     let x = read_channel(cursor, file, o);
@@ -301,9 +302,9 @@ fn channel_owner(c: Canvas, k: u32) -> Owner
 
 // The mask of the layer of row k, if it has one, becomes row k + 1.
 fn mask_rows(cursor: Cursor, file: &[u8], table: &mut [u32], x: Layer, k: u32) -> RowsRead
-    requires { ⌜ (length (now file) ≤ 1073741824) × (x .width ≤ 16384) × (x .height ≤ 16384) ⌝ }
+    requires { ⌜ (length (now file) ≤ fileLimit) × (x .width ≤ 16384) × (x .height ≤ 16384) ⌝ }
     requires { ⌜ (k < 127) × (rowSize * (k + 2) ≤ length (now table)) ⌝ }
-    ensures { λ r. ⌜ Filled cursor (maskRows wordLinks x k (rowsIn (k + 1) (now (table .entry)))) (now (file .entry)) (now (table .entry)) (r .cursor) (r .rows) (now (table .exit)) ⌝ }
+    ensures { λ r. ⌜ Filled cursor (maskRows pointerSize x k (rowsIn (k + 1) (now (table .entry)))) (now (file .entry)) (now (table .entry)) (r .cursor) (r .rows) (now (table .exit)) ⌝ }
     ensures { λ r. ⌜ r .rows ≤ k + 2 ⌝ }
 {
     if x.mask == 0 {
@@ -318,9 +319,9 @@ fn mask_rows(cursor: Cursor, file: &[u8], table: &mut [u32], x: Layer, k: u32) -
 
 // The row of a layer becomes row k, and its mask's the next.
 fn layer_rows(cursor: Cursor, file: &[u8], table: &mut [u32], c: Canvas, k: u32) -> RowsRead
-    requires { ⌜ length (now file) ≤ 1073741824 ⌝ }
+    requires { ⌜ length (now file) ≤ fileLimit ⌝ }
     requires { ⌜ (k < 127) × (rowSize * (k + 2) ≤ length (now table)) ⌝ }
-    ensures { λ r. ⌜ Filled cursor (layerRows wordLinks c (rowsIn k (now (table .entry)))) (now (file .entry)) (now (table .entry)) (r .cursor) (r .rows) (now (table .exit)) ⌝ }
+    ensures { λ r. ⌜ Filled cursor (layerRows pointerSize c (rowsIn k (now (table .entry)))) (now (file .entry)) (now (table .entry)) (r .cursor) (r .rows) (now (table .exit)) ⌝ }
     ensures { λ r. ⌜ r .rows ≤ k + 2 ⌝ }
 {
     let read = read_layer(cursor, file, c.base);
@@ -341,9 +342,9 @@ pub(crate) fn drawable(
     c: Canvas,
     k: u32,
 ) -> RowsRead
-    requires { ⌜ (length (now file) ≤ 1073741824) × (c .width ≤ 16384) × (c .height ≤ 16384) ⌝ }
+    requires { ⌜ (length (now file) ≤ fileLimit) × (c .width ≤ 16384) × (c .height ≤ 16384) ⌝ }
     requires { ⌜ (k + rowsMost kind 1 ≤ 128) × (length (now table) ≡ tableSize) ⌝ }
-    ensures { λ r. ⌜ Filled cursor (drawable wordLinks kind c (rowsIn k (now (table .entry)))) (now (file .entry)) (now (table .entry)) (r .cursor) (r .rows) (now (table .exit)) ⌝ }
+    ensures { λ r. ⌜ Filled cursor (drawable pointerSize kind c (rowsIn k (now (table .entry)))) (now (file .entry)) (now (table .entry)) (r .cursor) (r .rows) (now (table .exit)) ⌝ }
     ensures { λ r. ⌜ r .rows ≤ k + rowsMost kind 1 ⌝ }
 {
     if kind == 1 {

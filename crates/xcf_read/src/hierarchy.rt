@@ -5,7 +5,7 @@ ghost use mathlib.Core.Bool.{_&&_};
 ghost use lib.ListN.{length};
 ghost use lib.Dec.{ltb};
 ghost use Rattle.xcf_walk.specs.Cursor.{Leads};
-ghost use Rattle.xcf_read.specs.Hierarchy.{wordLinks, agrees, pointer, rest, tiles, hierarchy};
+ghost use Rattle.xcf_read.specs.Hierarchy.{pointerSize, agrees, pointer, rest, tiles, hierarchy};
 use xcf_tile::grid::tile_count;
 use xcf_walk::cursor::Cursor;
 use xcf_walk::cursor::WordRead;
@@ -26,7 +26,7 @@ fn agrees(cursor: Cursor, file: &[u8], v: u32) -> Cursor
 
 // A pointer that is not 0.
 pub(crate) fn pointer(cursor: Cursor, file: &[u8]) -> WordRead
-    ensures { λ r. ⌜ Leads cursor (pointer wordLinks) (now (file .entry)) (r .cursor) (r .value) ⌝ }
+    ensures { λ r. ⌜ Leads cursor (pointer pointerSize) (now (file .entry)) (r .cursor) (r .value) ⌝ }
 {
     let p = cursor.word(file);
     let next = p.cursor.check(p.value != 0, 9, cursor.at);
@@ -38,7 +38,7 @@ pub(crate) fn pointer(cursor: Cursor, file: &[u8]) -> WordRead
 
 // Further pointers up to a 0.
 fn rest(cursor: Cursor, file: &[u8]) -> Cursor
-    ensures { λ r. ⌜ Leads cursor (rest wordLinks) (now (file .entry)) r tt ⌝ }
+    ensures { λ r. ⌜ Leads cursor (rest pointerSize) (now (file .entry)) r tt ⌝ }
 {
     let mut next = cursor;
     let mut again = true;
@@ -63,7 +63,7 @@ fn between(before: u32, p: u32, end: usize) -> bool
 
 // The pointers of n tiles and the closing word.
 fn tiles(cursor: Cursor, file: &[u8], n: u32) -> Cursor
-    ensures { λ r. ⌜ Leads cursor (tiles wordLinks n 0) (now (file .entry)) r tt ⌝ }
+    ensures { λ r. ⌜ Leads cursor (tiles pointerSize n 0) (now (file .entry)) r tt ⌝ }
 {
     let end = file.len();
     let mut next = cursor;
@@ -91,7 +91,7 @@ pub(crate) fn hierarchy(
     depth: u32,
 ) -> PlaceRead
     requires { ⌜ (width ≤ 16384) × (height ≤ 16384) ⌝ }
-    ensures { λ r. ⌜ Leads cursor (hierarchy wordLinks width height depth) (now (file .entry)) (r .cursor) (r .place) ⌝ }
+    ensures { λ r. ⌜ Leads cursor (hierarchy pointerSize width height depth) (now (file .entry)) (r .cursor) (r .place) ⌝ }
     ensures { λ r. ⌜ r .place ≤ length (now (file .entry)) ⌝ }
 {
     let first = agrees(cursor, file, width);

@@ -6,9 +6,10 @@ ghost use lib.ListN.{length};
 ghost use lib.Dec.{eqb};
 ghost use Rattle.xcf_walk.specs.Cursor.{Leads};
 ghost use Rattle.xcf_table.specs.Table.{tableSize, rowsIn};
-ghost use Rattle.xcf_read.specs.Hierarchy.{wordLinks};
+ghost use Rattle.xcf_read.specs.Hierarchy.{pointerSize};
 ghost use Rattle.xcf_read.specs.Image.{baseOk, baseType, head, pointers, canvasOf, drawables, image};
-ghost use Rattle.xcf_read.specs.Parts.{fileStart, Filled, rowsMost, wordsAt, PointerRead};
+ghost use Rattle.xcf_read.specs.Answer.{fileLimit};
+ghost use Rattle.xcf_read.specs.Parts.{drawable, fileStart, Filled, rowsMost, wordsAt, PointerRead};
 use crate::drawable::Canvas;
 use crate::drawable::RowsRead;
 use crate::drawable::drawable;
@@ -124,7 +125,7 @@ fn pointer_turn(cursor: Cursor, file: &[u8], left: u32) -> PointerTurn
 
 // Pointers closed by 0, at most so many.
 fn pointers(cursor: Cursor, file: &[u8], most: u32) -> PointersRead
-    ensures { λ r. ⌜ Leads cursor (pointers wordLinks most) (now (file .entry)) (r .cursor) (wordsAt (now (file .entry)) (cursor .at) (r .count)) ⌝ }
+    ensures { λ r. ⌜ Leads cursor (pointers pointerSize most) (now (file .entry)) (r .cursor) (wordsAt (now (file .entry)) (cursor .at) (r .count)) ⌝ }
     ensures { λ r. ⌜ (r .count ≤ most) × (r .cursor .number ≡ 0 → cursor .at + 4 * r .count ≤ length (now (file .entry))) ⌝ }
 {
     let mut next = cursor;
@@ -155,10 +156,10 @@ fn drawables(
     n: u32,
     k: u32,
 ) -> RowsRead
-    requires { ⌜ (length (now file) ≤ 1073741824) × (c .width ≤ 16384) × (c .height ≤ 16384) ⌝ }
+    requires { ⌜ (length (now file) ≤ fileLimit) × (c .width ≤ 16384) × (c .height ≤ 16384) ⌝ }
     requires { ⌜ (n ≤ 48) × (k + rowsMost kind n ≤ 128) × (length (now table) ≡ tableSize) ⌝ }
     requires { ⌜ (cursor .number ≡ 0 → at + 4 * n ≤ length (now file)) ⌝ }
-    ensures { λ r. ⌜ Filled cursor (drawables wordLinks kind c (wordsAt (now (file .entry)) at n) (rowsIn k (now (table .entry)))) (now (file .entry)) (now (table .entry)) (r .cursor) (r .rows) (now (table .exit)) ⌝ }
+    ensures { λ r. ⌜ Filled cursor (drawables (drawable pointerSize kind c) (wordsAt (now (file .entry)) at n) (rowsIn k (now (table .entry)))) (now (file .entry)) (now (table .entry)) (r .cursor) (r .rows) (now (table .exit)) ⌝ }
     ensures { λ r. ⌜ r .rows ≤ k + rowsMost kind n ⌝ }
 {
     let mut next = cursor;
@@ -189,8 +190,8 @@ fn canvas_of(h: Head) -> Canvas
 
 // The rows go into the table from its start.
 pub(crate) fn image(file: &[u8], table: &mut [u32]) -> ImageRead
-    requires { ⌜ (length (now file) ≤ 1073741824) × (length (now table) ≡ tableSize) ⌝ }
-    ensures { λ r. ⌜ Leads fileStart (image wordLinks) (now (file .entry)) (r .cursor) (record { head = r .head; rows = rowsIn (r .rows) (now (table .exit)) }) ⌝ }
+    requires { ⌜ (length (now file) ≤ fileLimit) × (length (now table) ≡ tableSize) ⌝ }
+    ensures { λ r. ⌜ Leads fileStart (image pointerSize) (now (file .entry)) (r .cursor) (record { head = r .head; rows = rowsIn (r .rows) (now (table .exit)) }) ⌝ }
     ensures { λ r. ⌜ (r .rows ≤ 128) × (length (now (table .exit)) ≡ tableSize) ⌝ }
 {
     let read = read_head(file);

@@ -7,7 +7,10 @@ mod image;
 ghost use mathlib.Core.Path.{_≡_};
 ghost use Rattle.xcf_read.specs.Answer.{refusal, Read};
 use crate::image::image;
+use xcf_table::TABLE_SIZE;
 use xcf_table::clear_from;
+
+pub const FILE_LIMIT: usize = 1073741824;
 
 // What acceptance gives; a refusal's other fields are 0.
 #[repr(C)]
@@ -41,10 +44,10 @@ fn refusal(number: u64, place: u64) -> ReadAnswer
 pub fn read(file: &[u8], table: &mut [u32]) -> ReadAnswer
     ensures { λ r. ⌜ Read (now (file .entry)) (now (table .entry)) r (now (table .exit)) ⌝ }
 {
-    if table.len() != 2048 {
+    if table.len() != TABLE_SIZE {
         return refusal(11, 0);
     }
-    if 1073741824 < file.len() {
+    if FILE_LIMIT < file.len() {
         return refusal(15, 0);
     }
     let x = image(file, table);

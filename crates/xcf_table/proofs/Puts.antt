@@ -10,21 +10,21 @@ use lib.Dec.{leb}
 use lib.ListN.{length}
 use lib.Seq.{paste, length-paste, take-paste, length-take-le}
 use Rattle.xcf_table.specs.declared.Row.{Row}
-use Rattle.xcf_table.specs.Table.{rowSize, tableSize, numbers, addRow, putRow, clearFrom, rowsIn, tableOf}
+use Rattle.xcf_table.specs.Table.{rowSize, tableSize, rowNumbers, addRow, putRow, clearFrom, rowsIn, tableOf}
 
 pub put-adds : (t : List ℕ) (k : ℕ) (r : Row) → rowSize * (k + 1) ≤ length t → rowsIn (k + 1) (putRow t k r) ≡ addRow (rowsIn k t) r
 unfolding addRow putRow
 put-adds t k r fits =
     let e : rowSize * (k + 1) ≡ rowSize * k + rowSize = omega arith in
     rw (le-leb _ _ fits)
-    (ap (λ (l : List ℕ). record { count = k + 1; numbers = l }) (rw e (take-paste t (rowSize * k) (numbers r) rowSize (omega arith) (omega arith))))
+    (ap (λ (l : List ℕ). record { count = k + 1; numbers = l }) (rw e (take-paste t (rowSize * k) (rowNumbers r) rowSize (omega arith) (omega arith))))
 
 pub put-length : (t : List ℕ) (k : ℕ) (r : Row) → length (putRow t k r) ≡ length t
 unfolding putRow
 put-length t k r = go (leb (rowSize * (k + 1)) (length t)) refl
   where
-    go : (b : Bool) → leb (rowSize * (k + 1)) (length t) ≡ b → length (cond b (paste t (rowSize * k) (numbers r) rowSize) t) ≡ length t
-    go true e = let fits : rowSize * (k + 1) ≤ length t = leb-true _ _ e in length-paste t (rowSize * k) (numbers r) rowSize (omega arith) (omega arith)
+    go : (b : Bool) → leb (rowSize * (k + 1)) (length t) ≡ b → length (cond b (paste t (rowSize * k) (rowNumbers r) rowSize) t) ≡ length t
+    go true e = let fits : rowSize * (k + 1) ≤ length t = leb-true _ _ e in length-paste t (rowSize * k) (rowNumbers r) rowSize (omega arith) (omega arith)
     go false e = refl
 
 -- the rows of a table that is cleared behind them make that table

@@ -14,8 +14,8 @@ abbrev pub tableSize : ℕ
 tableSize = 128 * rowSize
 
 -- a row's numbers, fields 0 to 15
-abbrev pub numbers : Row → List ℕ
-numbers r =
+abbrev pub rowNumbers : Row → List ℕ
+rowNumbers r =
     r .kind ∷ r .width ∷ r .height ∷ r .depth ∷ r .form ∷ r .name ∷ r .size ∷ r .list ∷ r .tiles ∷ r .count
     ∷ r .opacity ∷ r .flags ∷ r .dx ∷ r .dy ∷ r .mode ∷ r .owner ∷ []
 
@@ -28,11 +28,11 @@ abbrev pub noRows : Rows
 noRows = record { count = 0; numbers = [] }
 
 unfoldable pub addRow : Rows → Row → Rows
-addRow rows r = record { count = rows .count + 1; numbers = rows .numbers ++ numbers r }
+addRow rows r = record { count = rows .count + 1; numbers = rows .numbers ++ rowNumbers r }
 
 -- a table with its row k replaced, or as it is where it has no such row
 unfoldable pub putRow : List ℕ → ℕ → Row → List ℕ
-putRow table k r = cond (leb (rowSize * (k + 1)) (length table)) (paste table (rowSize * k) (numbers r) rowSize) table
+putRow table k r = cond (leb (rowSize * (k + 1)) (length table)) (paste table (rowSize * k) (rowNumbers r) rowSize) table
 
 -- a table with zeros from its row k on
 unfoldable pub clearFrom : List ℕ → ℕ → List ℕ

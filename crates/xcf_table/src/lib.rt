@@ -3,7 +3,11 @@ ghost use mathlib.Core.Path.{_≡_};
 ghost use Prim.Native.Nat.{_+_, _≤_};
 ghost use lib.ListN.{length};
 ghost use lib.Seq.{paste};
-ghost use Rattle.xcf_table.specs.Table.{numbers, putRow, clearFrom};
+ghost use Rattle.xcf_table.specs.Table.{rowSize, rowNumbers, putRow, clearFrom};
+
+pub const ROW_SIZE: usize = 16;
+
+pub const TABLE_SIZE: usize = 2048;
 
 // A drawable's row, fields 0 to 15: form is its type, name and size are the place and the number of its name's bytes,
 // list and tiles the places of its properties and of its first tile pointer, and count the number of its tiles.
@@ -27,8 +31,8 @@ pub struct Row {
 }
 
 impl Row {
-    fn numbers(self) -> [u32; 16]
-        ensures { λ r. ⌜ r ≡ numbers self ⌝ }
+    fn numbers(self) -> [u32; ROW_SIZE]
+        ensures { λ r. ⌜ r ≡ rowNumbers self ⌝ }
     {
         [
             self.kind,
@@ -52,12 +56,12 @@ impl Row {
 }
 
 // The numbers of a row go into the table from a place on.
-fn put(table: &mut [u32], at: usize, row: [u32; 16])
-    requires { ⌜ at + 16 ≤ length (now table) ⌝ }
-    ensures { λ _. ⌜ now (table .exit) ≡ paste (now (table .entry)) at row 16 ⌝ }
+fn put(table: &mut [u32], at: usize, row: [u32; ROW_SIZE])
+    requires { ⌜ at + rowSize ≤ length (now table) ⌝ }
+    ensures { λ _. ⌜ now (table .exit) ≡ paste (now (table .entry)) at row rowSize ⌝ }
 {
     let mut i = 0;
-    while i < 16 {
+    while i < ROW_SIZE {
         table[at + i] = row[i];
         i += 1;
     }
@@ -67,8 +71,8 @@ fn put(table: &mut [u32], at: usize, row: [u32; 16])
 pub fn put_row(table: &mut [u32], k: u32, row: Row)
     ensures { λ _. ⌜ now (table .exit) ≡ putRow (now (table .entry)) k row ⌝ }
 {
-    let at = 16 * (k as usize);
-    if at + 16 <= table.len() {
+    let at = ROW_SIZE * (k as usize);
+    if at + ROW_SIZE <= table.len() {
         put(table, at, row.numbers());
     }
 }
@@ -77,7 +81,7 @@ pub fn put_row(table: &mut [u32], k: u32, row: Row)
 pub fn clear_from(table: &mut [u32], k: u32)
     ensures { λ _. ⌜ now (table .exit) ≡ clearFrom (now (table .entry)) k ⌝ }
 {
-    let mut i = 16 * (k as usize);
+    let mut i = ROW_SIZE * (k as usize);
     while i < table.len() {
         table[i] = 0;
         i += 1;

@@ -50,14 +50,14 @@ pub advances-word : Advances word
 unfolding word
 advances-word = advances-number 4 (omega arith)
 
-pub advances-property : (owner : ℕ) → Advances (property owner)
+pub advances-property : (list : ℕ) → Advances (property list)
 unfolding property
-advances-property owner = advances-next here _ (straight-property owner) λ start r. advances-first word _ r advances-word
+advances-property list = advances-next here _ (straight-property list) λ start r. advances-first word _ r advances-word
 
-pub advances-property-turn : (owner : ℕ) (p : Properties) → Advances (propertyTurn owner p)
+pub advances-property-turn : (list : ℕ) (p : Properties) → Advances (propertyTurn list p)
 unfolding propertyTurn
-advances-property-turn owner p = advances-first (property owner) _ (straight-property-turn owner p) (advances-property owner)
+advances-property-turn list p = advances-first (property list) _ (straight-property-turn list p) (advances-property list)
 
-pub advances-properties : (owner unmapped : ℕ) → Advances (properties owner unmapped)
+pub advances-properties : (list unmapped : ℕ) → Advances (properties list unmapped)
 unfolding properties
-advances-properties owner unmapped = advances-loop _ _ (straight-properties owner unmapped) (advances-property-turn owner)
+advances-properties list unmapped = advances-loop _ _ (straight-properties list unmapped) (advances-property-turn list)

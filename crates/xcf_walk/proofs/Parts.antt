@@ -8,7 +8,7 @@ use native.Mathlib.Omega.{arith}
 use lib.ListN.{length, drop, getD, length-take, length-drop, List·getD-eq-default}
 use lib.Seq.{getD-take, getD-drop, drop-cons, ext-getD}
 use Rattle.xcf_walk.specs.Walk.{part}
-use Rattle.xcf_walk.specs.Fields.{spelt}
+use Rattle.xcf_walk.specs.Fields.{bigEndian}
 
 pub part-at : (f : List ℕ) (at n i : ℕ) → i < n → getD (part f at n) i 0 ≡ getD f (at + i) 0
 part-at f at n i h = rw (getD-take, getD-drop)
@@ -31,10 +31,10 @@ part-part f at n i m h =
 pub part-cons : (f : List ℕ) (at n : ℕ) → at < length f → part f at (suc n) ≡ getD f at 0 ∷ part f (at + 1) n
 part-cons f at n h = rw (drop-cons f at 0 h, ← (let e : suc at ≡ at + 1 = omega arith in e))
 
-pub spelt-part : (f : List ℕ) (at : ℕ) → at + 4 ≤ length f
-    → spelt 0 (part f at 4) ≡ getD f at 0 * 16777216 + getD f (at + 1) 0 * 65536 + getD f (at + 2) 0 * 256 + getD f (at + 3) 0
-unfolding spelt
-spelt-part f at h =
+pub big-endian-part : (f : List ℕ) (at : ℕ) → at + 4 ≤ length f
+    → bigEndian 0 (part f at 4) ≡ getD f at 0 * 16777216 + getD f (at + 1) 0 * 65536 + getD f (at + 2) 0 * 256 + getD f (at + 3) 0
+unfolding bigEndian
+big-endian-part f at h =
     rw (
       part-cons f at 3 (omega arith),
       part-cons f (at + 1) 2 (omega arith),

@@ -9,7 +9,7 @@ use mathlib.Core.Logic.{inl, inr, ⊎-elim}
 use native.Mathlib.Omega.{arith}
 use lib.ListN.{length}
 use Rattle.xcf_walk.specs.Walk.{Walk, done, refuse, pass, ask, move, got, _>>=_, part, run, PassedOver, bytes, here, fileLength, must, Turn, more, last, onward, turns, loop}
-use Rattle.xcf_walk.specs.Fields.{number, word, string}
+use Rattle.xcf_walk.specs.Fields.{number, word}
 use Rattle.xcf_walk.specs.declared.property.Properties.{Properties}
 use Rattle.xcf_walk.specs.Property.{payload, colourMap, isColourMap, content, property, propertyTurn, properties}
 use Rattle.xcf_walk.proofs.Cases.{below-or}
@@ -68,15 +68,9 @@ pub straight-word : Straight word
 unfolding word
 straight-word = straight-number 4
 
-pub straight-string : Straight string
-unfolding string
-straight-string =
-    straight-bind _ straight-here λ at. straight-bind _ straight-word λ n. straight-bind _ straight-here λ place.
-    straight-bind _ (straight-bytes _) λ b. straight-bind _ (straight-must _ _ _) λ _. straight-done
-
 pub straight-payload : (kind lengthAt n : ℕ) → Straight (payload kind lengthAt n)
 unfolding payload
-straight-payload kind lengthAt n = straight-bind _ (straight-must _ _ _) λ _. straight-bind _ (straight-bytes _) λ b. straight-done
+straight-payload kind lengthAt n = search (straight-bind, straight-must, straight-bytes, straight-done)
 
 pub straight-colour-map : (lengthAt n : ℕ) → Straight (colourMap lengthAt n)
 unfolding colourMap
@@ -88,26 +82,26 @@ straight-cond : {A : Type 0} (b : Bool) {w v : Walk A} → Straight w → Straig
 straight-cond true x y = x
 straight-cond false x y = y
 
-pub straight-content : (owner kind lengthAt n : ℕ) → Straight (content owner kind lengthAt n)
+pub straight-content : (list kind lengthAt n : ℕ) → Straight (content list kind lengthAt n)
 unfolding content
-straight-content owner kind lengthAt n =
-    straight-cond (isColourMap owner kind) (straight-colour-map lengthAt n) (straight-payload kind lengthAt n)
+straight-content list kind lengthAt n =
+    straight-cond (isColourMap list kind) (straight-colour-map lengthAt n) (straight-payload kind lengthAt n)
 
-pub straight-property : (owner : ℕ) → Straight (property owner)
+pub straight-property : (list : ℕ) → Straight (property list)
 unfolding property
-straight-property owner =
+straight-property list =
     straight-bind _ straight-here λ start. straight-bind _ straight-word λ kind. straight-bind _ straight-here λ at. straight-bind _ straight-word λ n.
-    straight-bind _ straight-here λ place. straight-bind _ (straight-content owner kind at n) λ c. straight-done
+    straight-bind _ straight-here λ place. straight-bind _ (straight-content list kind at n) λ c. straight-done
 
-pub straight-property-turn : (owner : ℕ) (p : Properties) → Straight (propertyTurn owner p)
+pub straight-property-turn : (list : ℕ) (p : Properties) → Straight (propertyTurn list p)
 unfolding propertyTurn
-straight-property-turn owner p =
-    straight-bind _ (straight-property owner) λ x. straight-bind _ (straight-must _ _ _) λ _. straight-bind _ (straight-must _ _ _) λ _.
+straight-property-turn list p =
+    straight-bind _ (straight-property list) λ x. straight-bind _ (straight-must _ _ _) λ _. straight-bind _ (straight-must _ _ _) λ _.
     straight-bind _ (straight-must _ _ _) λ _. straight-done
 
-pub straight-properties : (owner unmapped : ℕ) → Straight (properties owner unmapped)
+pub straight-properties : (list unmapped : ℕ) → Straight (properties list unmapped)
 unfolding properties
-straight-properties owner unmapped = straight-loop _ _ (straight-property-turn owner)
+straight-properties list unmapped = straight-loop _ _ (straight-property-turn list)
 
 -- it goes forward, and not past the file's end
 pub straight-forward : {A : Type 0} {w : Walk A} (f : List ℕ) (at : ℕ) {a : A} {q : ℕ} → Straight w → got a q ≡ run w f at

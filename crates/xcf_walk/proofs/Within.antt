@@ -10,15 +10,12 @@ use lib.Dec.{eqb}
 use lib.ListN.{length}
 use Rattle.xcf_walk.specs.declared.cursor.Cursor.{Cursor}
 use Rattle.xcf_walk.specs.declared.cursor.Name.{Name}
-use Rattle.xcf_walk.specs.declared.property.Properties.{Properties}
 use Rattle.xcf_walk.specs.Walk.{Walk, got, refused, part, run, bytes, here, must}
-use Rattle.xcf_walk.specs.Fields.{spelt, number, word, string}
-use Rattle.xcf_walk.specs.Property.{properties}
-use Rattle.xcf_walk.specs.Cursor.{checked, jumped, outcome, resume, Leads, Reads, noName, noProperties}
+use Rattle.xcf_walk.specs.Fields.{bigEndian, number, word, string}
+use Rattle.xcf_walk.specs.Cursor.{checked, outcome, resume, Leads, Reads, noName}
 use Rattle.xcf_walk.proofs.Cases.{cond-same}
 use Rattle.xcf_walk.proofs.Walks.{got-not-refused, parted, got-done, got-bytes, got-here, got-must}
-use Rattle.xcf_walk.proofs.Straight.{Straight, straight-forward}
-use Rattle.xcf_walk.proofs.Advances.{Advances, advances-properties}
+use Rattle.xcf_walk.proofs.Advances.{Advances}
 use Rattle.xcf_walk.proofs.Resume.{is-live}
 
 -- a walk that leads to a live cursor was taken
@@ -38,28 +35,21 @@ module _ {A : Type 0} {c d : Cursor} {w : Walk A} {f : List ℕ} {a : A} (l : Le
   pub live-run : got a (d .at) ≡ run w f (c .at)
   live-run = taken .1
 
--- so it ended where the walk does: by any walk that ends in the file, by one that passes over a byte, and by one that follows no pointer
-module _ {A : Type 0} {c d : Cursor} {w : Walk A} {f : List ℕ} {a : A} where
-  pub ends-within : ((at : ℕ) (b : A) (q : ℕ) → got b q ≡ run w f at → q ≤ length f) → Leads c w f d a → d .number ≡ 0 → d .at ≤ length f
-  ends-within inside l h = inside (c .at) a (d .at) (live-run l h)
-
-  pub moves-on : Advances w → Leads c w f d a → d .number ≡ 0 → (c .at < d .at) × (d .at ≤ length f)
-  moves-on v l h = v .passes f (c .at) a (d .at) (live-run l h)
-
-  pub straight-within : Straight w → Leads c w f d a → d .number ≡ 0 → (c .at ≤ d .at) × (c .at ≤ length f → d .at ≤ length f)
-  straight-within s l h = straight-forward f (c .at) s (live-run l h)
+-- so it moved on, where the walk passes over a byte
+pub moves-on : {A : Type 0} {c d : Cursor} {w : Walk A} {f : List ℕ} {a : A} → Advances w → Leads c w f d a → d .number ≡ 0 → (c .at < d .at) × (d .at ≤ length f)
+moves-on {c = c} {d = d} {f = f} {a = a} v l h = v .passes f (c .at) a (d .at) (live-run l h)
 
 -- a word
-pub got-word : (f : List ℕ) (at : ℕ) {v q : ℕ} → got v q ≡ run word f at → (q ≡ at + 4) × (at + 4 ≤ length f) × (v ≡ spelt 0 (part f at 4))
+pub got-word : (f : List ℕ) (at : ℕ) {v q : ℕ} → got v q ≡ run word f at → (q ≡ at + 4) × (at + 4 ≤ length f) × (v ≡ bigEndian 0 (part f at 4))
 unfolding word number
 got-word f at e =
     let p = parted (bytes 4) _ f at e in
     let b = got-bytes f at 4 (p .first) in
     let d = got-done f (p .place) (p .rest) in
-    (d .0 ∙ b .0, b .1, d .1 ∙ ap (spelt 0) (b .2))
+    (d .0 ∙ b .0, b .1, d .1 ∙ ap (bigEndian 0) (b .2))
 
 pub word-within : {c d : Cursor} {f : List ℕ} {v : ℕ} → Leads c word f d v → d .number ≡ 0
-    → (d .at ≡ c .at + 4) × (d .at ≤ length f) × (v ≡ spelt 0 (part f (c .at) 4))
+    → (d .at ≡ c .at + 4) × (d .at ≤ length f) × (v ≡ bigEndian 0 (part f (c .at) 4))
 word-within {c} {f = f} l h = let g = got-word f (c .at) (live-run l h) in (g .0, omega (arith, g .0, g .1), g .2)
 
 -- a string: its bytes and its end lie in the file
@@ -85,10 +75,6 @@ string-within {c} {d} {f} {name} r = (go (eqb (d .number) 0) refl (r .absent), �
     go true e1 e2 = got-string f (c .at) (live-run (r .leads) (eqb-true _ _ e1)) .0
     go false e1 e2 = rw e2 (omega arith)
 
-pub properties-within : {c d : Cursor} {f : List ℕ} {p : Properties} (owner unmapped : ℕ) → Reads c (properties owner unmapped) f noProperties d p
-    → d .number ≡ 0 → d .at ≤ length f
-properties-within owner unmapped r h = moves-on (advances-properties owner unmapped) (r .leads) h .1
-
 -- the steps on a cursor
 pub check-keeps : (c : Cursor) {d : Cursor} (t : Bool) (n p : ℕ) → d ≡ checked c t n p → 1 ≤ n → d .number ≡ 0 → (d ≡ c) × (t ≡ true)
 unfolding checked
@@ -103,10 +89,22 @@ pub check-live : (c : Cursor) {d : Cursor} (t : Bool) (n p : ℕ) → d ≡ chec
 unfolding checked
 check-live c t n p e h = e ∙ rw h (cond-same (eqb (c .number) 0) c)
 
-pub jump-at : (c : Cursor) {d : Cursor} (p : ℕ) → d ≡ jumped c p → d .number ≡ 0 → d .at ≡ p
-unfolding jumped
-jump-at c {d} p e h = go (eqb (c .number) 0) refl e
-  where
-    go : (l : Bool) → eqb (c .number) 0 ≡ l → d ≡ cond l (record { at = p; number = 0 }) c → d .at ≡ p
-    go true e1 e2 = ap (λ x. x .at) e2
-    go false e1 e2 = absurd (eqb-false _ _ e1 (sym (ap (λ x. x .number) e2) ∙ h))
+same-cursor : {d e : Cursor} → d .at ≡ e .at → d .number ≡ e .number → d ≡ e
+same-cursor {d} {e} p q = ap (λ x. record { at = x; number = d .number }) p ∙ ap (λ y. record { at = e .at; number = y }) q
+
+-- what a method reads is one cursor and one value
+module _ {A : Type 0} {c d e : Cursor} {w : Walk A} {f : List ℕ} {none a b : A} where
+  pub reads-unique : Reads c w f none d a → Reads c w f none e b → (d ≡ e) × (a ≡ b)
+  unfolding outcome
+  reads-unique x y = go (eqb (d .number) 0) refl (eqb (e .number) 0) refl (x .leads .gives ∙ sym (y .leads .gives)) (x .absent) (y .absent)
+    where
+      go : (s : Bool) → eqb (d .number) 0 ≡ s → (t : Bool) → eqb (e .number) 0 ≡ t
+          → cond s (got a (d .at)) (refused (d .number) (d .at)) ≡ cond t (got b (e .at)) (refused (e .number) (e .at))
+          → a ≡ cond s a none → b ≡ cond t b none → (d ≡ e) × (a ≡ b)
+      go true e1 true e2 g m n = let at : d .at ≡ e .at = cc in (same-cursor at (eqb-true _ _ e1 ∙ sym (eqb-true _ _ e2)), cc)
+      go true e1 false e2 g m n = absurd (got-not-refused g)
+      go false e1 true e2 g m n = absurd (got-not-refused (sym g))
+      go false e1 false e2 g m n =
+          let at : d .at ≡ e .at = cc in
+          let number : d .number ≡ e .number = cc in
+          (same-cursor at number, m ∙ sym n)

@@ -7,15 +7,15 @@ use Rattle.xcf_walk.specs.declared.cursor.Name.{Name}
 use Rattle.xcf_walk.specs.Walk.{Walk, done, bytes, here, must, _>>=_, _>>_}
 
 -- the number that bytes spell behind a number n, the high byte first
-unfoldable pub spelt : ℕ → List ℕ → ℕ
-spelt n [] = n
-spelt n (b ∷ bs) = spelt (n * 256 + b) bs
+unfoldable pub bigEndian : ℕ → List ℕ → ℕ
+bigEndian n [] = n
+bigEndian n (b ∷ bs) = bigEndian (n * 256 + b) bs
 
 -- a number of so many bytes
 unfoldable pub number : ℕ → Walk ℕ
 number size = do
   b ← bytes size
-  done (spelt 0 b)
+  done (bigEndian 0 b)
 
 -- words are 32 bits
 unfoldable pub word : Walk ℕ

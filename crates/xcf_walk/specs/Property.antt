@@ -8,16 +8,16 @@ use Rattle.xcf_walk.specs.declared.property.Content.{Content}
 use Rattle.xcf_walk.specs.declared.property.Property.{Property}
 use Rattle.xcf_walk.specs.declared.property.Properties.{Properties}
 use Rattle.xcf_walk.specs.Walk.{Walk, done, bytes, here, must, part, Turn, more, last, loop, _>>=_, _>>_}
-use Rattle.xcf_walk.specs.Fields.{spelt, word}
+use Rattle.xcf_walk.specs.Fields.{bigEndian, word}
 
 -- whose list it is: the image's, or a drawable's by its row's kind
-abbrev pub image : ℕ
-image = 0
+abbrev pub imageList : ℕ
+imageList = 0
 
-abbrev pub layer : ℕ
-layer = 1
+abbrev pub layerList : ℕ
+layerList = 1
 
--- a length that no type is held to
+-- in the list below: a type that is skipped by its length
 abbrev pub any : ℕ
 any = 4294967295
 
@@ -35,7 +35,7 @@ lengthOk kind n =
 
 -- the word at i of a payload; 0 where the payload is too short
 unfoldable pub wordOf : List ℕ → ℕ → ℕ
-wordOf b i = cond (leb (i + 4) (length b)) (spelt 0 (part b i 4)) 0
+wordOf b i = cond (leb (i + 4) (length b)) (bigEndian 0 (part b i 4)) 0
 
 -- a payload of n bytes: its only byte or its first word, and its second word
 unfoldable pub contentOf : List ℕ → Content
@@ -59,45 +59,45 @@ colourMap lengthAt n = do
   done (record { first = count; second = 0 })
 
 unfoldable pub isColourMap : ℕ → ℕ → Bool
-isColourMap owner kind = eqb owner image && eqb kind 1
+isColourMap list kind = eqb list imageList && eqb kind 1
 
 unfoldable pub content : ℕ → ℕ → ℕ → ℕ → Walk Content
-content owner kind lengthAt n = cond (isColourMap owner kind) (colourMap lengthAt n) (payload kind lengthAt n)
+content list kind lengthAt n = cond (isColourMap list kind) (colourMap lengthAt n) (payload kind lengthAt n)
 
 -- a property: its type, the place of its type word, the place and the length of its payload, and its content
 unfoldable pub property : ℕ → Walk Property
-property owner = do
+property list = do
   start ← here
   kind ← word
   lengthAt ← here
   n ← word
   place ← here
-  c ← content owner kind lengthAt n
+  c ← content list kind lengthAt n
   done (record { kind = kind; start = start; place = place; length = n; content = c })
 
 -- type 5 in a layer's list
 unfoldable pub isFloating : ℕ → ℕ → Bool
-isFloating owner kind = eqb owner layer && eqb kind 5
+isFloating list kind = eqb list layerList && eqb kind 5
 
 -- the list ends, and an indexed image's colour map has not come
 unfoldable pub lacksMap : ℕ → Properties → Bool
 lacksMap kind p = eqb kind 0 && eqb (p .unmapped) 1
 
--- the greatest content of a type: compression in the image's list; opacity, visible and a layer's apply mask in a drawable's
-unfoldable pub greatest : ℕ → ℕ → ℕ
-greatest owner kind =
-    cond (eqb owner image)
-    (cond (eqb kind 17) 1 any)
-    (cond (eqb kind 6) 255 (cond (eqb kind 8) 1 (cond (eqb owner layer && eqb kind 11) 1 any)))
+-- compression in the image's list is 0 or 1; in a drawable's, opacity is at most 255, visible and a layer's apply mask are 0 or 1
+unfoldable pub allowed : ℕ → ℕ → ℕ → Bool
+allowed list kind v =
+    cond (eqb list imageList)
+    (cond (eqb kind 17) (leb v 1) true)
+    (cond (eqb kind 6) (leb v 255) (cond (eqb kind 8) (leb v 1) (cond (eqb list layerList && eqb kind 11) (leb v 1) true)))
 
 -- what holds where the list says nothing; unmapped is 1 for an indexed image
 abbrev pub absent : ℕ → ℕ → Properties
-absent owner unmapped = record {
+absent list unmapped = record {
   compression = 0;
   unmapped = unmapped;
   opacity = 255;
   mode = 0;
-  visible = cond (eqb owner layer) 1 0;
+  visible = cond (eqb list layerList) 1 0;
   apply = 1;
   dx = 0;
   dy = 0;
@@ -108,11 +108,11 @@ absent owner unmapped = record {
 
 -- the type that says a drawable is active
 unfoldable pub activeType : ℕ → ℕ
-activeType owner = cond (eqb owner layer) 2 3
+activeType list = cond (eqb list layerList) 2 3
 
 -- the list after one more property: the last of a type stands
 unfoldable pub put : ℕ → ℕ → Content → Properties → Properties
-put owner kind c p = record {
+put list kind c p = record {
   compression = cond (eqb kind 17) (c .first) (p .compression);
   unmapped = cond (eqb kind 1) 0 (p .unmapped);
   opacity = cond (eqb kind 6) (c .first) (p .opacity);
@@ -121,19 +121,19 @@ put owner kind c p = record {
   apply = cond (eqb kind 11) (c .first) (p .apply);
   dx = cond (eqb kind 15) (c .first) (p .dx);
   dy = cond (eqb kind 15) (c .second) (p .dy);
-  active = cond (eqb kind (activeType owner)) 1 (p .active);
+  active = cond (eqb kind (activeType list)) 1 (p .active);
   selection = cond (eqb kind 4) 1 (p .selection);
   group = cond (eqb kind 29) 1 (p .group);
 }
 
 -- one property of a list; its content is tested once its payload is there
 unfoldable pub propertyTurn : ℕ → Properties → Walk (Turn Properties Properties)
-propertyTurn owner p = do
-  x ← property owner
-  must (not (isFloating owner (x .kind))) 16 (x .start)
+propertyTurn list p = do
+  x ← property list
+  must (not (isFloating list (x .kind))) 16 (x .start)
   must (not (lacksMap (x .kind) p)) 7 (x .start)
-  must (leb (x .content .first) (greatest owner (x .kind))) 7 (x .place)
-  done (cond (eqb (x .kind) 0) (last (put owner (x .kind) (x .content) p)) (more (put owner (x .kind) (x .content) p)))
+  must (allowed list (x .kind) (x .content .first)) 7 (x .place)
+  done (cond (eqb (x .kind) 0) (last (put list (x .kind) (x .content) p)) (more (put list (x .kind) (x .content) p)))
 
 unfoldable pub properties : ℕ → ℕ → Walk Properties
-properties owner unmapped = loop (propertyTurn owner) (absent owner unmapped)
+properties list unmapped = loop (propertyTurn list) (absent list unmapped)

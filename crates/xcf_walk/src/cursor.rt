@@ -4,7 +4,7 @@ ghost use Prim.Native.Nat.{_+_, _-_, _≤_};
 ghost use lib.ListN.{length, getD};
 ghost use lib.Dec.{eqb};
 ghost use Rattle.xcf_walk.specs.Walk.{part};
-ghost use Rattle.xcf_walk.specs.Fields.{spelt, word, string};
+ghost use Rattle.xcf_walk.specs.Fields.{bigEndian, word, string};
 ghost use Rattle.xcf_walk.specs.Cursor.{live, checked, jumped, skipped, Reads, noName};
 
 // A place in a file while the number is 0; else the first fault's number and place, which every further step keeps.
@@ -37,7 +37,7 @@ pub(crate) fn wide(b: u8) -> u32
 
 pub(crate) fn word_at(file: &[u8], at: usize) -> u32
     requires { ⌜ at + 4 ≤ length (now file) ⌝ }
-    ensures { λ r. ⌜ r ≡ spelt 0 (part (now (file .entry)) at 4) ⌝ }
+    ensures { λ r. ⌜ r ≡ bigEndian 0 (part (now (file .entry)) at 4) ⌝ }
 {
     wide(file[at]) * 16777216
         + wide(file[at + 1]) * 65536
@@ -83,7 +83,7 @@ impl Cursor {
         if self.number == 0 { self.at } else { 0 }
     }
 
-    // Refused with this number and place unless the test holds.
+    // Refused with this number and place unless the test holds. A number of 0 would leave the cursor live.
     pub fn check(self, test: bool, number: u32, place: usize) -> Cursor
         ensures { λ r. ⌜ r ≡ checked self test number place ⌝ }
     {

@@ -3,9 +3,9 @@ ghost use mathlib.Core.Path.{_≡_};
 ghost use Prim.Native.Nat.{_+_, _-_, _≤_, _<_};
 ghost use mathlib.Core.Bool.{true, cond};
 ghost use lib.ListN.{length};
-ghost use lib.Dec.{leb, eqb};
+ghost use lib.Dec.{eqb};
 ghost use Rattle.xcf_walk.specs.Walk.{part};
-ghost use Rattle.xcf_walk.specs.Property.{lengthOk, wordOf, contentOf, payload, colourMap, isColourMap, content, property, isFloating, lacksMap, greatest, absent, activeType, put, propertyTurn, properties};
+ghost use Rattle.xcf_walk.specs.Property.{lengthOk, wordOf, contentOf, payload, colourMap, isColourMap, content, property, isFloating, lacksMap, allowed, absent, activeType, put, propertyTurn, properties};
 ghost use Rattle.xcf_walk.specs.Cursor.{Leads, Reads, noContent, noProperty, noProperties, turnOf};
 use crate::cursor::Cursor;
 use crate::cursor::wide;
@@ -145,16 +145,16 @@ fn content_of(file: &[u8], place: usize, n: usize) -> Content
     }
 }
 
-fn is_colour_map(owner: u32, kind: u32) -> bool
-    ensures { λ r. ⌜ r ≡ isColourMap owner kind ⌝ }
+fn is_colour_map(list: u32, kind: u32) -> bool
+    ensures { λ r. ⌜ r ≡ isColourMap list kind ⌝ }
 {
-    if owner == 0 { kind == 1 } else { false }
+    if list == 0 { kind == 1 } else { false }
 }
 
-fn is_floating(owner: u32, kind: u32) -> bool
-    ensures { λ r. ⌜ r ≡ isFloating owner kind ⌝ }
+fn is_floating(list: u32, kind: u32) -> bool
+    ensures { λ r. ⌜ r ≡ isFloating list kind ⌝ }
 {
-    if owner == 1 { kind == 5 } else { false }
+    if list == 1 { kind == 5 } else { false }
 }
 
 fn lacks_map(kind: u32, p: Properties) -> bool
@@ -163,31 +163,31 @@ fn lacks_map(kind: u32, p: Properties) -> bool
     if kind == 0 { p.unmapped == 1 } else { false }
 }
 
-// The greatest content of a type in the image's list, and in a drawable's.
-fn greatest_of_image(kind: u32) -> u32
-    ensures { λ r. ⌜ r ≡ greatest 0 kind ⌝ }
+fn allowed_in_image(kind: u32, v: u32) -> bool
+    ensures { λ r. ⌜ r ≡ allowed 0 kind v ⌝ }
 {
-    if kind == 17 { 1 } else { ANY }
+    if kind == 17 { v <= 1 } else { true }
 }
 
-fn greatest(owner: u32, kind: u32) -> u32
-    ensures { λ r. ⌜ r ≡ greatest owner kind ⌝ }
+// Whether a property of this type may have the content v.
+fn allowed(list: u32, kind: u32, v: u32) -> bool
+    ensures { λ r. ⌜ r ≡ allowed list kind v ⌝ }
 {
-    if owner == 0 {
-        return greatest_of_image(kind);
+    if list == 0 {
+        return allowed_in_image(kind, v);
     }
     if kind == 6 {
-        return 255;
+        return v <= 255;
     }
     if kind == 8 {
-        return 1;
+        return v <= 1;
     }
-    if owner == 1 {
+    if list == 1 {
         if kind == 11 {
-            return 1;
+            return v <= 1;
         }
     }
-    ANY
+    true
 }
 
 // The new value where the type is the wanted one, and else the old.
@@ -197,16 +197,16 @@ fn pick(kind: u32, want: u32, new: u32, old: u32) -> u32
     if kind == want { new } else { old }
 }
 
-fn active_type(owner: u32) -> u32
-    ensures { λ r. ⌜ r ≡ activeType owner ⌝ }
+fn active_type(list: u32) -> u32
+    ensures { λ r. ⌜ r ≡ activeType list ⌝ }
 {
-    if owner == 1 { 2 } else { 3 }
+    if list == 1 { 2 } else { 3 }
 }
 
-fn visible_unsaid(owner: u32) -> u32
-    ensures { λ r. ⌜ r ≡ cond (eqb owner 1) 1 0 ⌝ }
+fn visible_unsaid(list: u32) -> u32
+    ensures { λ r. ⌜ r ≡ cond (eqb list 1) 1 0 ⌝ }
 {
-    if owner == 1 { 1 } else { 0 }
+    if list == 1 { 1 } else { 0 }
 }
 
 impl Properties {
@@ -229,15 +229,15 @@ impl Properties {
     }
 
     // What holds where the list says nothing.
-    fn absent(owner: u32, unmapped: u32) -> Properties
-        ensures { λ r. ⌜ r ≡ absent owner unmapped ⌝ }
+    fn absent(list: u32, unmapped: u32) -> Properties
+        ensures { λ r. ⌜ r ≡ absent list unmapped ⌝ }
     {
         Properties {
             compression: 0,
             unmapped,
             opacity: 255,
             mode: 0,
-            visible: visible_unsaid(owner),
+            visible: visible_unsaid(list),
             apply: 1,
             dx: 0,
             dy: 0,
@@ -248,8 +248,8 @@ impl Properties {
     }
 
     // The list after one more property.
-    fn put(self, owner: u32, kind: u32, content: Content) -> Properties
-        ensures { λ r. ⌜ r ≡ put owner kind content self ⌝ }
+    fn put(self, list: u32, kind: u32, content: Content) -> Properties
+        ensures { λ r. ⌜ r ≡ put list kind content self ⌝ }
     {
         let first = content.first;
         Properties {
@@ -261,7 +261,7 @@ impl Properties {
             apply: pick(kind, 11, first, self.apply),
             dx: pick(kind, 15, first, self.dx),
             dy: pick(kind, 15, content.second, self.dy),
-            active: pick(kind, active_type(owner), 1, self.active),
+            active: pick(kind, active_type(list), 1, self.active),
             selection: pick(kind, 4, 1, self.selection),
             group: pick(kind, 29, 1, self.group),
         }
@@ -319,24 +319,24 @@ impl Cursor {
         }
     }
 
-    fn content(self, file: &[u8], owner: u32, kind: u32, at: usize, n: u32) -> ContentRead
-        ensures { λ r. ⌜ Reads self (content owner kind at n) (now (file .entry)) noContent (r .cursor) (r .content) ⌝ }
+    fn content(self, file: &[u8], list: u32, kind: u32, at: usize, n: u32) -> ContentRead
+        ensures { λ r. ⌜ Reads self (content list kind at n) (now (file .entry)) noContent (r .cursor) (r .content) ⌝ }
     {
-        if is_colour_map(owner, kind) {
+        if is_colour_map(list, kind) {
             self.colour_map(file, at, n)
         } else {
             self.payload(file, kind, at, n)
         }
     }
 
-    // Type, length and payload; the owner says whose list it is.
-    pub fn property(self, file: &[u8], owner: u32) -> PropertyRead
-        ensures { λ r. ⌜ Reads self (property owner) (now (file .entry)) noProperty (r .cursor) (r .property) ⌝ }
+    // Type, length and payload; the list says whose list it is.
+    pub fn property(self, file: &[u8], list: u32) -> PropertyRead
+        ensures { λ r. ⌜ Reads self (property list) (now (file .entry)) noProperty (r .cursor) (r .property) ⌝ }
     {
         let kind = self.word(file);
         let n = kind.cursor.word(file);
         let content = n.cursor
-            .content(file, owner, kind.value, kind.cursor.at, n.value);
+            .content(file, list, kind.value, kind.cursor.at, n.value);
         let next = content.cursor;
         if next.number != 0 {
             return PropertyRead {
@@ -366,17 +366,17 @@ impl Cursor {
         }
     }
 
-    fn property_turn(self, file: &[u8], owner: u32, p: Properties) -> PropertyTurn
-        ensures { λ r. ⌜ Leads self (propertyTurn owner p) (now (file .entry)) (r .cursor) (turnOf (r .again) (r .properties)) ⌝ }
+    fn property_turn(self, file: &[u8], list: u32, p: Properties) -> PropertyTurn
+        ensures { λ r. ⌜ Leads self (propertyTurn list p) (now (file .entry)) (r .cursor) (turnOf (r .again) (r .properties)) ⌝ }
         ensures { λ r. ⌜ (r .again ≡ true → (self .at < r .cursor .at) × (r .cursor .at ≤ length (now (file .entry)))) ⌝ }
     {
-        let read = self.property(file, owner);
+        let read = self.property(file, list);
         let x = read.property;
-        let fixed = read.cursor.check(!is_floating(owner, x.kind), 16, x.start);
+        let fixed = read.cursor.check(!is_floating(list, x.kind), 16, x.start);
         let mapped = fixed.check(!lacks_map(x.kind, p), 7, x.start);
-        let next = mapped.check(x.content.first <= greatest(owner, x.kind), 7, x.place);
+        let next = mapped.check(allowed(list, x.kind, x.content.first), 7, x.place);
         let content = x.content;
-        let properties = p.put(owner, x.kind, content);
+        let properties = p.put(list, x.kind, content);
         PropertyTurn {
             properties,
             again: next.number == 0 && x.kind != 0,
@@ -385,14 +385,14 @@ impl Cursor {
     }
 
     // A whole list; unmapped is 1 for an indexed image, whose list must hold a colour map.
-    pub fn properties(self, file: &[u8], owner: u32, unmapped: u32) -> PropertiesRead
-        ensures { λ r. ⌜ Reads self (properties owner unmapped) (now (file .entry)) noProperties (r .cursor) (r .properties) ⌝ }
+    pub fn properties(self, file: &[u8], list: u32, unmapped: u32) -> PropertiesRead
+        ensures { λ r. ⌜ Reads self (properties list unmapped) (now (file .entry)) noProperties (r .cursor) (r .properties) ⌝ }
     {
         let mut cursor = self;
-        let mut p = Properties::absent(owner, unmapped);
+        let mut p = Properties::absent(list, unmapped);
         let mut again = true;
         while again {
-            let turn = cursor.property_turn(file, owner, p);
+            let turn = cursor.property_turn(file, list, p);
             cursor = turn.cursor;
             p = turn.properties;
             again = turn.again;

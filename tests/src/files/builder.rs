@@ -9,6 +9,8 @@ use crate::answer::ReadAnswer;
 use crate::cases::Shape;
 use crate::random::Random;
 
+// These are not shared with the reference: a mistake there must not be one in
+// the files that test it.
 const MAGIC: &[u8] = b"gimp xcf ";
 /// The tags of the versions 0 to 3.
 pub const VERSIONS: [&[u8]; 4] = [b"file\0", b"v001\0", b"v002\0", b"v003\0"];

@@ -18,7 +18,8 @@ pub struct Property {
     pub payload: Vec<u8>,
 }
 
-/// Types that allow only one length, and that length.
+/// Types that allow only one length, and that length. Not shared with the
+/// reference: a mistake there must not be one in the files that test it.
 const FIXED: [(u32, usize); 22] = [
     (2, 0),
     (3, 0),

@@ -31,6 +31,21 @@ fn number_1_at_every_cut_of_the_example() {
     assert_accepted(&EXAMPLE[..142], [1, 1, 1, 0, 1], &[row]);
 }
 
+/// The first 9 bytes, and then the tag's 5, are there before they are looked
+/// at: bytes that are too few are a 1, whatever they are.
+#[test]
+fn number_1_for_a_short_start_or_tag() {
+    assert_refused(&[], 1, 0);
+    assert_refused(&[0; 8], 1, 0);
+    assert_refused(b"GIMP XCF", 1, 0);
+    for length in 9..14 {
+        assert_refused(&b"gimp xcf vXYZ"[..length], 1, 9);
+        assert_refused(&b"gimp xcf \0\0\0\0"[..length], 1, 9);
+        // A wrong start is found before the tag is missed.
+        assert_refused(&b"GIMP XCF v003"[..length], 2, 0);
+    }
+}
+
 #[test]
 fn number_1_where_a_pointer_leads_past_the_end() {
     let file = layered();
@@ -86,6 +101,8 @@ fn number_2() {
     }
     assert_refused(b"gimp xcf", 1, 0);
     assert_refused(b"gimp_xcf_", 2, 0);
+    assert_refused(b"GIMP XCF ", 2, 0);
+    assert_refused(&[0; 9], 2, 0);
 }
 
 #[test]
@@ -121,7 +138,8 @@ fn number_5() {
     assert_refused(&empty_image(b"file\0", 2, &map), 5, 22);
 }
 
-/// The only payload length of each type that has one.
+/// The only payload length of each type that has one. Not shared with the
+/// reference or the generator of files: a mistake there must not be one here.
 const LENGTHS: [(u32, u32); 21] = [
     (0, 0),
     (2, 0),

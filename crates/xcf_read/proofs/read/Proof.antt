@@ -1,5 +1,7 @@
+-- `read` meets its contract: its first two tests are the definition's, of refusals 11 and 15;
+-- then the walk over the image decides: the table is cleared whole (`not-accepted`), or behind its rows (`accepted`).
 use borrow.Author.Tests.{lt-leb, eq-eqb, ne-eqb}
-use Rattle.xcf_read.specs.Answer.{readAnswer, readTable}
+use Rattle.xcf_read.specs.Answer.{reading}
 use Rattle.xcf_read.proofs.Decided.{accepted, not-accepted}
 use borrow.Author.Needs.{needs}
 use Rattle.xcf_read.proofs.read.Statement.{statement}
@@ -9,14 +11,14 @@ refusal-requires : tie.Need-refusal-requires
 refusal-requires c κs = search needs
 
 returns : tie.Need-returns
-unfolding readAnswer readTable
+unfolding reading
 returns c = record { answer = rw (ne-eqb _ _ (c .before .if1 .taken)) (c .refusal .ensures); table = rw (ne-eqb _ _ (c .before .if1 .taken)) }
 
 refusal-requires-2 : tie.Need-refusal-requires-2
 refusal-requires-2 c κs = search needs
 
 returns-2 : tie.Need-returns-2
-unfolding readAnswer readTable
+unfolding reading
 returns-2 c = record {
   answer = rw (eq-eqb _ _ (c .before .before .if1 .left), lt-leb _ _ (c .before .if2 .taken)) (c .refusal2 .ensures);
   table = rw (eq-eqb _ _ (c .before .before .if1 .left), lt-leb _ _ (c .before .if2 .taken));

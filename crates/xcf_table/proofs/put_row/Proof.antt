@@ -1,3 +1,4 @@
+-- `put_row` meets its contract, by whether the table has a row k: `put` pastes the row's numbers, or nothing changes.
 use Prim.Native.Nat.{_+_, _*_}
 use native.Mathlib.Omega.{arith}
 use borrow.Author.Tests.{le-leb, lt-leb}

@@ -1,3 +1,4 @@
+-- `channel_flags` meets its contract: flag by flag; none is more than its bit, so that the sum fits.
 use borrow.Author.Needs.{needs}
 use Rattle.xcf_read.specs.Drawable.{channelFlags}
 use Rattle.xcf_read.proofs.drawable.channel_flags.Statement.{statement}

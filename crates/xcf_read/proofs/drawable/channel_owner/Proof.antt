@@ -1,3 +1,4 @@
+-- `channel_owner` meets its contract: its fields are the definition's.
 use mathlib.Core.Path.{refl}
 use Rattle.xcf_read.specs.Drawable.{channelOwner}
 use Rattle.xcf_read.proofs.drawable.channel_owner.Statement.{statement}

@@ -1,3 +1,4 @@
+-- `channel_row` meets its contract: field by field; places fit in 32 bits as required, the count since tiles are few.
 use native.Mathlib.Omega.{arith}
 use borrow.Author.Needs.{needs}
 use Rattle.xcf_read.specs.Drawable.{channelRow}

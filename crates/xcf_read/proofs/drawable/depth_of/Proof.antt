@@ -1,3 +1,4 @@
+-- `depth_of` meets its contract: below 6 it reads the definition's list; from 6 on it gives the list's default, 0.
 use mathlib.Core.Path.{refl, sym}
 use borrow.Author.Needs.{needs}
 use lib.ListN.{List·getD-eq-default}

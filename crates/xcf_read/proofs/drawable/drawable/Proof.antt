@@ -4,8 +4,8 @@ use mathlib.Core.Path.{_≡_}
 use native.Mathlib.Omega.{arith}
 use borrow.Author.Tests.{eq-eqb, ne-eqb}
 use borrow.Author.Needs.{needs}
-use Rattle.xcf_read.specs.Drawable.{channelOwner, drawable}
-use Rattle.xcf_read.specs.Parts.{rowsMost}
+use Rattle.xcf_read.specs.Drawable.{channelOwner, canvasChannelRows}
+use Rattle.xcf_read.specs.Parts.{drawable, rowsMost}
 use Rattle.xcf_read.proofs.drawable.drawable.Statement.{statement}
 use Rattle.xcf_read.proofs.drawable.drawable.Tie as tie
 
@@ -48,7 +48,7 @@ same-length-2 : tie.Need-same-length-2
 same-length-2 c = search needs
 
 returns-2 : tie.Need-returns-2
-unfolding drawable
+unfolding drawable canvasChannelRows
 returns-2 c =
     let rows = c .before .before in
     let chosen = rows .before .before .before .if1 .left in

@@ -1,3 +1,4 @@
+-- `flag` meets its contract, by whether the value is 0; either result is at most the bit.
 use native.Mathlib.Omega.{arith}
 use borrow.Author.Tests.{eq-eqb, ne-eqb}
 use Rattle.xcf_read.specs.Drawable.{flag}

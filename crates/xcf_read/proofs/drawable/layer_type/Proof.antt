@@ -1,3 +1,4 @@
+-- `layer_type` meets its contract: the place, the word and its check by `type_ok` are the walk's do block.
 use mathlib.Core.Path.{refl}
 use native.Mathlib.Omega.{arith}
 use borrow.Author.Needs.{needs}

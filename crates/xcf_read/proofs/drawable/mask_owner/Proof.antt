@@ -1,3 +1,4 @@
+-- `mask_owner` meets its contract: its fields are the definition's.
 use mathlib.Core.Path.{refl}
 use Rattle.xcf_read.specs.Drawable.{maskOwner}
 use Rattle.xcf_read.proofs.drawable.mask_owner.Statement.{statement}

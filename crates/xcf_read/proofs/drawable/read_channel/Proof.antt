@@ -1,3 +1,5 @@
+-- `read_channel` meets its contract: two sides like the owner's and the fields are the walk's do block step by step;
+-- the bounds are those of `read_fields`.
 use borrow.Author.Needs.{needs}
 use Rattle.xcf_walk.proofs.Resume.{then}
 use Rattle.xcf_read.specs.Drawable.{channel}

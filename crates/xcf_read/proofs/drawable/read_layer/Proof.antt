@@ -1,3 +1,4 @@
+-- `read_layer` meets its contract: the walk's do block step by step; the bounds are those of `side` and `read_fields`.
 use borrow.Author.Needs.{needs}
 use Rattle.xcf_walk.specs.Fields.{word}
 use Rattle.xcf_walk.proofs.Resume.{then, ends}

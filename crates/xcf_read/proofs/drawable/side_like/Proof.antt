@@ -1,3 +1,4 @@
+-- `side_like` meets its contract: the place, the side and its check are the walk's do block.
 use mathlib.Core.Path.{refl}
 use native.Mathlib.Omega.{arith}
 use borrow.Author.Needs.{needs}

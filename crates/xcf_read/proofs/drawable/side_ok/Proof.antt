@@ -1,3 +1,4 @@
+-- `side_ok` meets its contract, by whether the side is at least 1; the test of the limit is the definition's.
 use borrow.Author.Tests.{le-leb, lt-leb}
 use Rattle.xcf_read.specs.Drawable.{sideOk}
 use Rattle.xcf_read.proofs.drawable.side_ok.Statement.{statement}

@@ -1,3 +1,4 @@
+-- `type_ok` meets its contract, by whether the type is at most 5; the test of the base type is the definition's.
 use borrow.Author.Tests.{le-leb, lt-leb}
 use Rattle.xcf_read.specs.Drawable.{typeOk}
 use Rattle.xcf_read.proofs.drawable.type_ok.Statement.{statement}

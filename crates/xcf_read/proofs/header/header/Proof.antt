@@ -1,3 +1,5 @@
+-- `header` meets its contract: its two skips and two checks are the walk's do block step by step;
+-- the tests are what `stands` and `version_at` promise.
 use mathlib.Core.Path.{refl}
 use native.Mathlib.Omega.{arith}
 use borrow.Author.Needs.{needs}

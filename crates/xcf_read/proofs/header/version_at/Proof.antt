@@ -1,3 +1,5 @@
+-- `version_at` meets its contract: each return rewrites the search of the tags with the tests that led there;
+-- `of-last` is what is left of it before the last test.
 use Prim.Native.Nat.{suc}
 use mathlib.Core.Path.{_≡_}
 use mathlib.Core.Bool.{cond}

@@ -1,3 +1,4 @@
+-- `between` meets its contract, by its first test; the second is the definition's.
 use borrow.Author.Tests.{lt-ltb, le-ltb}
 use Rattle.xcf_read.proofs.hierarchy.between.Statement.{statement}
 use Rattle.xcf_read.proofs.hierarchy.between.Tie as tie

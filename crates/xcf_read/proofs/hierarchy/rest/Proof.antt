@@ -1,13 +1,13 @@
 -- `rest` meets its contract: `Going` holds at the loop's head, and each word is a turn.
 use borrow.Author.Needs.{needs}
 use Rattle.xcf_walk.proofs.Loops.{Going, bytesLeft, going-start, going-turn, going-over, left-falls}
-use Rattle.xcf_read.specs.Hierarchy.{wordLinks, restTurn, rest}
+use Rattle.xcf_read.specs.Hierarchy.{pointerSize, restTurn, rest}
 use Rattle.xcf_read.proofs.Pointers.{rest-turn, rest-moves}
 use Rattle.xcf_read.proofs.hierarchy.rest.Statement.{statement}
 use Rattle.xcf_read.proofs.hierarchy.rest.Tie as tie
 
 abbrev Inv-loop : tie.InvT-loop
-Inv-loop file next₀ again₀ next again = Going (restTurn wordLinks) file next₀ tt again next tt
+Inv-loop file next₀ again₀ next again = Going (restTurn pointerSize) file next₀ tt again next tt
 
 abbrev μ-loop : tie.MeasureT-loop
 μ-loop file next₀ again₀ next again = bytesLeft file again next

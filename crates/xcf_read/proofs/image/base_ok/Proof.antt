@@ -1,3 +1,4 @@
+-- `base_ok` meets its contract: each return rewrites the definition with the tests that led there.
 use borrow.Author.Tests.{le-leb, lt-leb, eq-eqb, ne-eqb}
 use Rattle.xcf_read.specs.Image.{baseOk}
 use Rattle.xcf_read.proofs.image.base_ok.Statement.{statement}

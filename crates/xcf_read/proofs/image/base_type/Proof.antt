@@ -1,3 +1,4 @@
+-- `base_type` meets its contract: the place, the word and its check by `base_ok` are the walk's do block.
 use mathlib.Core.Path.{refl}
 use native.Mathlib.Omega.{arith}
 use Rattle.xcf_walk.proofs.Resume.{then, then-here, ends, by-check}

@@ -1,3 +1,4 @@
+-- `canvas_of` meets its contract: its fields are the definition's.
 use mathlib.Core.Path.{refl}
 use Rattle.xcf_read.specs.Image.{canvasOf}
 use Rattle.xcf_read.proofs.image.canvas_of.Statement.{statement}

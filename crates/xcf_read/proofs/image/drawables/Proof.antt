@@ -1,3 +1,4 @@
+-- `drawables` meets its contract: `Going` holds at the loop's head; each drawable has room in the table and keeps it.
 use Prim.Native.Nat.{_-_}
 use mathlib.Core.Path.{_∙_}
 use native.Mathlib.Omega.{arith}

@@ -1,10 +1,12 @@
+-- `image` meets its contract: the walk's do block step by step; the pointers lie in the file,
+-- and 48 layers with masks and 32 channels have at most 128 rows.
 use Prim.Native.Nat.{_≤_}
 use mathlib.Core.Path.{_∙_}
 use native.Mathlib.Omega.{arith}
 use Rattle.xcf_walk.proofs.Resume.{then, ends}
 use Rattle.xcf_walk.proofs.Within.{live-before}
 use Rattle.xcf_read.specs.Image.{canvasOf, image}
-use Rattle.xcf_read.specs.Parts.{rowsMost}
+use Rattle.xcf_read.specs.Parts.{drawable, rowsMost}
 use borrow.Author.Needs.{needs}
 use Rattle.xcf_read.proofs.image.image.Statement.{statement}
 use Rattle.xcf_read.proofs.image.image.Tie as tie
@@ -54,7 +56,7 @@ same-length : tie.Need-same-length
 same-length c = search needs
 
 returns : tie.Need-returns
-unfolding image rowsMost
+unfolding image drawable rowsMost
 returns c =
     let all = c .before .before .before in
     let first = all .before .before .before .before in

@@ -1,3 +1,5 @@
+-- `pointers` meets its contract: `Going` holds at the loop's head; a pointer keeps it (`going-next`),
+-- and so does what ends the loop, a 0 or a refusal (`going-last`).
 use Prim.Native.Nat.{suc, _-_}
 use mathlib.Core.Bool.{cond}
 use native.Mathlib.Omega.{arith}

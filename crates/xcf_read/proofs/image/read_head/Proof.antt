@@ -1,3 +1,4 @@
+-- `read_head` meets its contract: the walk's do block step by step; the sides are small, as `side` promises.
 use Rattle.xcf_walk.proofs.Resume.{then, ends}
 use Rattle.xcf_read.specs.Image.{head}
 use borrow.Author.Needs.{needs}

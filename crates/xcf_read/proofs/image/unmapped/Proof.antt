@@ -1,3 +1,4 @@
+-- `unmapped` meets its contract, by whether the base type is 2.
 use borrow.Author.Tests.{eq-eqb, ne-eqb}
 use Rattle.xcf_read.proofs.image.unmapped.Statement.{statement}
 use Rattle.xcf_read.proofs.image.unmapped.Tie as tie

@@ -1,3 +1,5 @@
+-- `last_is_zero` meets its contract: its first three returns are where there is no last byte, which counts as 0
+-- (`part-last-none`); the fourth reads it (`part-at`).
 use Prim.Native.Nat.{_-_}
 use mathlib.Core.Path.{sym, ap}
 use native.Mathlib.Omega.{arith}

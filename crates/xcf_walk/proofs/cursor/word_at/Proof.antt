@@ -1,5 +1,6 @@
+-- `word_at` meets its contract: its sum of four bytes is the number that they spell (`big-endian-part`), and it fits.
 use native.Mathlib.Omega.{arith}
-use Rattle.xcf_walk.proofs.Parts.{spelt-part}
+use Rattle.xcf_walk.proofs.Parts.{big-endian-part}
 use borrow.Author.Needs.{needs}
 use Rattle.xcf_walk.proofs.cursor.word_at.Statement.{statement}
 use Rattle.xcf_walk.proofs.cursor.word_at.Tie as tie
@@ -56,7 +57,7 @@ add-result-3 : tie.Need-add-result-3
 add-result-3 c = search needs
 
 returns : tie.Need-returns
-returns c = let a = c .before .before .before .before .before .before .before .before .before .args in omega (arith, spelt-part (a .file .now) (a .at) (c .before .before .before .before .before .before .before .before .before .pre))
+returns c = let a = c .before .before .before .before .before .before .before .before .before .args in omega (arith, big-endian-part (a .file .now) (a .at) (c .before .before .before .before .before .before .before .before .before .pre))
 
 pub word-at-spec : {M : Type 1} → statement M
 word-at-spec =

@@ -1,3 +1,4 @@
+-- `active_type` meets its contract, by whether the list is a layer's.
 use borrow.Author.Tests.{eq-eqb, ne-eqb}
 use Rattle.xcf_walk.specs.Property.{activeType}
 use Rattle.xcf_walk.proofs.property.active_type.Statement.{statement}

@@ -1,3 +1,4 @@
+-- `content_of` meets its contract: its two fields are what `first_of` and `word_of` promise, the definition's.
 use Rattle.xcf_walk.specs.Property.{contentOf}
 use borrow.Author.Needs.{needs}
 use Rattle.xcf_walk.proofs.property.content_of.Statement.{statement}

@@ -1,3 +1,4 @@
+-- `first_of` meets its contract, by whether the payload is one byte: it is the file's (`part-at`), or `word_of` reads.
 use native.Mathlib.Nat.{add-zero}
 use native.Mathlib.Omega.{arith}
 use borrow.Author.Tests.{eq-eqb, ne-eqb}

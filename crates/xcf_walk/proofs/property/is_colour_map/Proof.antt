@@ -1,3 +1,4 @@
+-- `is_colour_map` meets its contract, by whether the list is the image's; the test of the type is the definition's.
 use borrow.Author.Tests.{eq-eqb, ne-eqb}
 use Rattle.xcf_walk.specs.Property.{isColourMap}
 use Rattle.xcf_walk.proofs.property.is_colour_map.Statement.{statement}

@@ -1,3 +1,4 @@
+-- `is_floating` meets its contract, by whether the list is a layer's; the test of the type is the definition's.
 use borrow.Author.Tests.{eq-eqb, ne-eqb}
 use Rattle.xcf_walk.specs.Property.{isFloating}
 use Rattle.xcf_walk.proofs.property.is_floating.Statement.{statement}

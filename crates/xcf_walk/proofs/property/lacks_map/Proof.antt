@@ -1,3 +1,4 @@
+-- `lacks_map` meets its contract, by whether the type is 0; the test of `unmapped` is the definition's other half.
 use borrow.Author.Tests.{eq-eqb, ne-eqb}
 use Rattle.xcf_walk.specs.Property.{lacksMap}
 use Rattle.xcf_walk.proofs.property.lacks_map.Statement.{statement}

@@ -1,3 +1,4 @@
+-- `length_ok` meets its contract: its tests of the type and of the length listed for it are the definition's.
 use borrow.Author.Tests.{lt-ltb, le-ltb, eq-eqb, ne-eqb}
 use Rattle.xcf_walk.specs.Property.{lengthOk}
 use borrow.Author.Needs.{needs}

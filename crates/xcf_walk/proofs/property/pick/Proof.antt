@@ -1,3 +1,4 @@
+-- `pick` meets its contract, by whether the type is the wanted one.
 use borrow.Author.Tests.{eq-eqb, ne-eqb}
 use Rattle.xcf_walk.proofs.property.pick.Statement.{statement}
 use Rattle.xcf_walk.proofs.property.pick.Tie as tie

@@ -1,3 +1,4 @@
+-- `visible_unsaid` meets its contract, by whether the list is a layer's.
 use borrow.Author.Tests.{eq-eqb, ne-eqb}
 use Rattle.xcf_walk.proofs.property.visible_unsaid.Statement.{statement}
 use Rattle.xcf_walk.proofs.property.visible_unsaid.Tie as tie

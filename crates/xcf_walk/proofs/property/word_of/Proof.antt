@@ -1,3 +1,4 @@
+-- `word_of` meets its contract, by whether the word lies in the payload; its bytes there are a part of the file's.
 use borrow.Author.Tests.{le-leb, lt-leb}
 use Rattle.xcf_walk.specs.Property.{wordOf}
 use Rattle.xcf_walk.proofs.Parts.{part-length, part-part}

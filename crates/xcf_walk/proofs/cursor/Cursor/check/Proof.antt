@@ -1,3 +1,4 @@
+-- `check` meets its contract, by the cases of its two tests, of the cursor and of what is checked.
 use borrow.Author.Tests.{eq-eqb, ne-eqb}
 use Rattle.xcf_walk.specs.Cursor.{checked}
 use Rattle.xcf_walk.proofs.cursor.Cursor.check.Statement.{statement}

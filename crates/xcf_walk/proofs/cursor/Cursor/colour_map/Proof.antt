@@ -1,3 +1,5 @@
+-- `colour_map` meets its contract: its checks, word and skip are the walk's do block (`leads`);
+-- beside a refusal stands no content.
 use mathlib.Core.Path.{refl}
 use native.Mathlib.Omega.{arith}
 use Rattle.xcf_walk.specs.Property.{colourMap}

@@ -1,3 +1,4 @@
+-- `jump` meets its contract, by whether the cursor is live: a refusal is kept.
 use borrow.Author.Tests.{eq-eqb, ne-eqb}
 use Rattle.xcf_walk.specs.Cursor.{jumped}
 use Rattle.xcf_walk.proofs.cursor.Cursor.jump.Statement.{statement}

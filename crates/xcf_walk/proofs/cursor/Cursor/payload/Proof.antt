@@ -1,3 +1,5 @@
+-- `payload` meets its contract: its check and skip are the walk's (`leads`), and `content_of` reads what was skipped;
+-- beside a refusal stands no content.
 use native.Mathlib.Omega.{arith}
 use Rattle.xcf_walk.specs.Walk.{part}
 use Rattle.xcf_walk.specs.Property.{contentOf, payload}

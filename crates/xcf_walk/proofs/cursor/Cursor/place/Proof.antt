@@ -1,3 +1,4 @@
+-- `place` meets its contract, by whether the cursor is live.
 use borrow.Author.Tests.{eq-eqb, ne-eqb}
 use Rattle.xcf_walk.proofs.cursor.Cursor.place.Statement.{statement}
 use Rattle.xcf_walk.proofs.cursor.Cursor.place.Tie as tie

@@ -7,10 +7,10 @@ use Rattle.xcf_walk.proofs.cursor.Cursor.properties.Statement.{statemen
 use Rattle.xcf_walk.proofs.cursor.Cursor.properties.Tie as tie
 
 abbrev Inv-loop : tie.InvT-loop
-Inv-loop file owner unmapped cursor₀ p₀ again₀ cursor p again = Going (propertyTurn owner) file cursor₀ p₀ again cursor p
+Inv-loop file list unmapped cursor₀ p₀ again₀ cursor p again = Going (propertyTurn list) file cursor₀ p₀ again cursor p
 
 abbrev μ-loop : tie.MeasureT-loop
-μ-loop file owner unmapped cursor₀ p₀ again₀ cursor p again = bytesLeft file again cursor
+μ-loop file list unmapped cursor₀ p₀ again₀ cursor p again = bytesLeft file again cursor
 
 absent-requires : tie.Need-absent-requires Inv-loop μ-loop
 absent-requires c κs = search needs

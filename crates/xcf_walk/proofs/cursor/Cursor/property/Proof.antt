@@ -1,3 +1,5 @@
+-- `property` meets its contract: two words and the content, each with its place, are the walk's do block (`leads`);
+-- beside a refusal stands no property.
 use mathlib.Core.Path.{refl}
 use Rattle.xcf_walk.specs.Property.{property}
 use Rattle.xcf_walk.specs.Cursor.{Leads}
@@ -11,7 +13,7 @@ leads : (c : tie.After-content)
     let kind = c .before .before .word .result in
     let n = c .before .word2 .result in
     let x = c .content .result in
-    Leads (a .self) (property (a .owner)) (a .file .now) (x .cursor) (record {
+    Leads (a .self) (property (a .list)) (a .file .now) (x .cursor) (record {
       kind = kind .value;
       start = a .self .at;
       place = n .cursor .at;

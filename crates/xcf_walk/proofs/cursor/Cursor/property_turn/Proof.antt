@@ -3,7 +3,7 @@ use mathlib.Core.Path.{ap}
 use mathlib.Core.Bool.{not}
 use native.Mathlib.Omega.{arith}
 use borrow.Author.Tests.{eqb-true}
-use lib.Dec.{leb, eqb}
+use lib.Dec.{eqb}
 use Rattle.xcf_walk.specs.Property.{propertyTurn}
 use Rattle.xcf_walk.specs.Cursor.{Leads, turnOf}
 use Rattle.xcf_walk.proofs.Cases.{cond-not}
@@ -17,7 +17,7 @@ use Rattle.xcf_walk.proofs.cursor.Cursor.property_turn.Tie as tie
 leads : (c : tie.After-put)
     → let read = c .before .before .before .before .before .before .before .before .before .before in
     let a = read .before .before .args in
-    Leads (a .self) (propertyTurn (a .owner) (a .p)) (a .file .now) (c .before .before .check3 .result)
+    Leads (a .self) (propertyTurn (a .list) (a .p)) (a .file .now) (c .before .before .check3 .result)
     (turnOf (not (eqb (read .property .result .property .kind) 0)) (c .put .result))
 unfolding propertyTurn
 leads c =
@@ -27,7 +27,7 @@ leads c =
     then _ (first .before .before .before .before .property .ensures .leads)
     (then _ (by-check _ _ _ _ (omega arith) (ap not (first .before .is-floating .ensures)) (first .check .ensures))
     (then _ (by-check _ _ _ _ (omega arith) (ap not (second .before .lacks-map .ensures)) (second .check2 .ensures))
-    (then _ (by-check _ _ _ _ (omega arith) (ap (leb _) (third .before .greatest .ensures)) (third .check3 .ensures)) (rw (c .put .ensures, cond-not) ends))))
+    (then _ (by-check _ _ _ _ (omega arith) (third .before .allowed .ensures) (third .check3 .ensures)) (rw (c .put .ensures, cond-not) ends))))
 
 property-requires : tie.Need-property-requires
 property-requires c κs = search needs
@@ -44,8 +44,8 @@ lacks-map-requires c κs = search needs
 check-requires-2 : tie.Need-check-requires-2
 check-requires-2 c κs = search needs
 
-greatest-requires : tie.Need-greatest-requires
-greatest-requires c κs = search needs
+allowed-requires : tie.Need-allowed-requires
+allowed-requires c κs = search needs
 
 check-requires-3 : tie.Need-check-requires-3
 check-requires-3 c κs = search needs
@@ -68,7 +68,7 @@ property-turn-spec =
     check-requires
     lacks-map-requires
     check-requires-2
-    greatest-requires
+    allowed-requires
     check-requires-3
     put-requires
     returns

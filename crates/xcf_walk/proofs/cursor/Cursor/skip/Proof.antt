@@ -1,3 +1,4 @@
+-- `skip` meets its contract: a refusal is kept; the two tests of the bytes left are the definition's one of the end.
 use Prim.Native.Nat.{_+_}
 use native.Mathlib.Omega.{arith}
 use lib.ListN.{length}

@@ -1,3 +1,4 @@
+-- `string` meets its contract: its walk's do block step by step (`leads`); beside a refusal stands no name.
 use Prim.Native.Nat.{_-_}
 use mathlib.Core.Path.{refl}
 use native.Mathlib.Omega.{arith}

@@ -1,16 +1,18 @@
+-- `word` meets its contract: its skip is the walk's one step, and `word_at` reads what was skipped;
+-- beside a refusal stands 0.
 use Prim.Native.Nat.{ℕ}
 use mathlib.Core.Path.{_≡_}
 use mathlib.Core.List.{List}
 use Rattle.xcf_walk.specs.declared.cursor.Cursor.{Cursor}
 use Rattle.xcf_walk.specs.Walk.{part}
-use Rattle.xcf_walk.specs.Fields.{spelt, word, number}
+use Rattle.xcf_walk.specs.Fields.{bigEndian, word, number}
 use Rattle.xcf_walk.specs.Cursor.{Leads, skipped}
 use Rattle.xcf_walk.proofs.Resume.{then, ends, by-skip, skip-fits, reads-live, reads-none}
 use borrow.Author.Needs.{needs}
 use Rattle.xcf_walk.proofs.cursor.Cursor.word.Statement.{statement}
 use Rattle.xcf_walk.proofs.cursor.Cursor.word.Tie as tie
 
-leads : (c d : Cursor) (f : List ℕ) → d ≡ skipped c f 4 → Leads c word f d (spelt 0 (part f (c .at) 4))
+leads : (c d : Cursor) (f : List ℕ) → d ≡ skipped c f 4 → Leads c word f d (bigEndian 0 (part f (c .at) 4))
 unfolding word number
 leads c d f e = then _ (by-skip c f 4 e) ends
 

@@ -1,3 +1,4 @@
+-- `absent` meets its contract: of its fields only `visible` depends on whose list it is, as `visible_unsaid` promises.
 use borrow.Author.Needs.{needs}
 use Rattle.xcf_walk.proofs.property.Properties.absent.Statement.{statement}
 use Rattle.xcf_walk.proofs.property.Properties.absent.Tie as tie

@@ -1,3 +1,4 @@
+-- `put` meets its contract: each of its fields is a `pick`, and so the definition's choice by the type.
 use Rattle.xcf_walk.specs.Property.{put}
 use borrow.Author.Needs.{needs}
 use Rattle.xcf_walk.proofs.property.Properties.put.Statement.{statement}

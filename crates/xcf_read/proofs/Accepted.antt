@@ -1,0 +1,31 @@
+-- The reader's number is 0 exactly where the walk gives an image: a refusal has a number of the list, and 0 is not in it.
+-- Assumes nothing.
+use Prim.Native.Nat.{ℕ, _≤_}
+use mathlib.Core.Path.{_≡_, refl, sym, _∙_, ap}
+use mathlib.Core.List.{List}
+use mathlib.Core.Bool.{true, false≢true}
+use borrow.Author.Tests.{le-leb, eq-eqb}
+use lib.ListN.{length}
+use Rattle.xcf_walk.specs.Walk.{Outcome, got, refused, run}
+use Rattle.xcf_table.specs.Table.{tableSize}
+use Rattle.xcf_read.specs.Hierarchy.{pointerSize}
+use Rattle.xcf_read.specs.Image.{Image, image}
+use Rattle.xcf_read.specs.Answer.{fileLimit, listed, readingOf, reading}
+use Rattle.xcf_read.proofs.Numbers.{refusals-listed}
+
+module _ (f table : List ℕ) (size : length table ≡ tableSize) (small : length f ≤ fileLimit) where
+  walked : reading f table .answer .number ≡ readingOf (run (image pointerSize) f 0) .answer .number
+  unfolding reading
+  walked = rw (eq-eqb _ _ size, le-leb _ _ small)
+
+  pub accepted-exactly : (reading f table .answer .number ≡ 0 → (x : Image) × (q : ℕ) × (got x q ≡ run (image pointerSize) f 0))
+      × ((x : Image) (q : ℕ) → got x q ≡ run (image pointerSize) f 0 → reading f table .answer .number ≡ 0)
+  unfolding listed
+  accepted-exactly = (
+    λ e. go (run (image pointerSize) f 0) refl (sym walked ∙ e),
+    λ x q e. walked ∙ ap (λ o. readingOf o .answer .number) (sym e),
+  )
+    where
+      go : (o : Outcome Image) → o ≡ run (image pointerSize) f 0 → readingOf o .answer .number ≡ 0 → (x : Image) × (q : ℕ) × (got x q ≡ run (image pointerSize) f 0)
+      go (got x q) e n = (x, q, e)
+      go (refused m p) e n = absurd (false≢true (rw n at (refusals-listed f m p e)))
