@@ -1,7 +1,7 @@
 pub mod Same
 pub mod Places
 pub mod Pointers
-pub mod TilesLoop
+pub mod Tiles
 pub mod PointersLoop
 pub mod DrawablesLoop
 pub mod Decided

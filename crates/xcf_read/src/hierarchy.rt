@@ -3,17 +3,27 @@ ghost use mathlib.Core.Path.{_≡_};
 ghost use Prim.Native.Nat.{_≤_};
 ghost use mathlib.Core.Bool.{_&&_};
 ghost use lib.ListN.{length};
-ghost use lib.Dec.{ltb};
+ghost use lib.Dec.{eqb};
 ghost use Rattle.xcf_walk.specs.Cursor.{Leads};
+ghost use Rattle.xcf_read.specs.Parts.{TilesLeft};
 ghost use Rattle.xcf_read.specs.Hierarchy.{pointerSize, agrees, pointer, rest, tiles, hierarchy};
 use xcf_tile::grid::tile_count;
 use xcf_walk::cursor::Cursor;
 use xcf_walk::cursor::WordRead;
+use xcf_walk::cursor::start;
+use xcf_walk::rising::rising_words;
 
 // The place of a drawable's first tile pointer.
 pub struct PlaceRead {
     pub place: usize,
     pub cursor: Cursor,
+}
+
+// How many tile pointers are right, the last of them, and the cursor behind it.
+struct TilesRead {
+    count: u32,
+    last: u32,
+    cursor: Cursor,
 }
 
 // A word that has to be v.
@@ -50,36 +60,42 @@ fn rest(cursor: Cursor, file: &[u8]) -> Cursor
     next
 }
 
-// Whether a tile pointer lies above the one before and below the file's length.
-fn between(before: u32, p: u32, end: usize) -> bool
-    ensures { λ r. ⌜ r ≡ (ltb before p && ltb p end) ⌝ }
+// The tile pointers that are right, from a refused cursor none.
+fn right_tiles(cursor: Cursor, file: &[u8], n: u32) -> TilesRead
+    ensures { λ r. ⌜ TilesLeft (now (file .entry)) cursor n (r .cursor) (r .last) (r .count) ⌝ }
 {
-    if before < p {
-        (p as usize) < end
-    } else {
-        false
+    if cursor.number != 0 {
+        return TilesRead {
+            count: 0,
+            last: 0,
+            cursor,
+        };
     }
+    let at = cursor.at;
+    let read = rising_words(file, at, n);
+    let next = start(at + 4 * (read.count as usize));
+    TilesRead {
+        count: read.count,
+        last: read.last,
+        cursor: next,
+    }
+}
+
+// Whether the word p behind so many right pointers closes the pointers of n tiles.
+fn closes(count: u32, n: u32, p: u32) -> bool
+    ensures { λ r. ⌜ r ≡ (eqb count n && eqb p 0) ⌝ }
+{
+    if count == n { p == 0 } else { false }
 }
 
 // The pointers of n tiles and the closing word.
 fn tiles(cursor: Cursor, file: &[u8], n: u32) -> Cursor
     ensures { λ r. ⌜ Leads cursor (tiles pointerSize n 0) (now (file .entry)) r tt ⌝ }
 {
-    let end = file.len();
-    let mut next = cursor;
-    let mut before: u32 = 0;
-    let mut i: u32 = 0;
-    while i < n {
-        let p = next.word(file);
-        next = p.cursor.check(between(before, p.value, end), 13, next.at);
-        if next.number != 0 {
-            return next;
-        }
-        before = p.value;
-        i += 1;
-    }
-    let zero = next.word(file);
-    zero.cursor.check(zero.value == 0, 13, next.at)
+    let right = right_tiles(cursor, file, n);
+    let next = right.cursor;
+    let p = next.word(file);
+    p.cursor.check(closes(right.count, n, p.value), 13, next.at)
 }
 
 // A hierarchy and its first level, for a drawable of these sides and this depth.

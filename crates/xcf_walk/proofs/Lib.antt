@@ -8,3 +8,5 @@ pub mod Within
 pub mod Parts
 pub mod Loops
 pub mod Refusals
+pub mod RisingLoop
+pub mod Risen

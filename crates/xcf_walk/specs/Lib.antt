@@ -1,4 +1,5 @@
 pub mod Walk
 pub mod Fields
 pub mod Property
+pub mod Rising
 pub mod Cursor

@@ -1,3 +1,4 @@
 // A file read front to back from one moving place: words, strings and property lists.
 pub mod cursor;
 pub mod property;
+pub mod rising;
