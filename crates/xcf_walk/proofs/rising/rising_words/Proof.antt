@@ -32,13 +32,13 @@ word-at-requires : tie.Need-word-at-requires Inv-loop μ-loop
 word-at-requires c κs = omega (arith, c .before .before .words-in .ensures .1 (omega arith))
 
 returns : tie.Need-returns Inv-loop μ-loop
-returns c = going-falls (c .before .before .before .loop .inv .1) (rw (← c .before .word-at .ensures) (c .if1 .taken))
+returns c = going-falls (c .before .before .before .loop .inv .1) (rw (← c .before .word-at .ensures) (omega (arith, c .if1 .taken)))
 
 cast-if2 : tie.Need-cast-if2 Inv-loop μ-loop
 cast-if2 c = search needs
 
 returns-2 : tie.Need-returns-2 Inv-loop μ-loop
-returns-2 c = going-beyond (c .before .before .before .before .loop .inv .1) (rw (← c .before .before .word-at .ensures) (c .if2 .taken))
+returns-2 c = going-beyond (c .before .before .before .before .loop .inv .1) (rw (← c .before .before .word-at .ensures) (omega (arith, c .if2 .taken)))
 
 add-count : tie.Need-add-count Inv-loop μ-loop
 add-count c = search needs
