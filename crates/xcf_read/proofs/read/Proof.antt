@@ -1,7 +1,12 @@
 -- `read` meets its contract: its first two tests are the definition's, of refusals 11 and 15;
 -- then the walk over the image decides: the table is cleared whole (`not-accepted`), or behind its rows (`accepted`).
+use mathlib.Core.Path.{_≡_}
+use mathlib.Core.Bool.{false}
+use native.Mathlib.Omega.{arith}
 use borrow.Author.Tests.{lt-leb, eq-eqb, ne-eqb}
-use Rattle.xcf_read.specs.Answer.{reading}
+use lib.Dec.{leb}
+use lib.ListN.{length}
+use Rattle.xcf_read.specs.Answer.{fileLimit, reading}
 use Rattle.xcf_read.proofs.Decided.{accepted, not-accepted}
 use borrow.Author.Needs.{needs}
 use Rattle.xcf_read.proofs.read.Statement.{statement}
@@ -17,11 +22,14 @@ returns c = record { answer = rw (ne-eqb _ _ (c .before .if1 .taken)) (c .refusa
 refusal-requires-2 : tie.Need-refusal-requires-2
 refusal-requires-2 c κs = search needs
 
+too-long : (c : tie.Then2) → leb (length (c .before .before .before .before .args .file .now)) fileLimit ≡ false
+too-long c = lt-leb (length (c .before .before .before .before .args .file .now)) fileLimit (omega (arith, c .if2 .taken))
+
 returns-2 : tie.Need-returns-2
 unfolding reading
 returns-2 c = record {
-  answer = rw (eq-eqb _ _ (c .before .before .if1 .left), lt-leb _ _ (c .before .if2 .taken)) (c .refusal2 .ensures);
-  table = rw (eq-eqb _ _ (c .before .before .if1 .left), lt-leb _ _ (c .before .if2 .taken));
+  answer = rw (eq-eqb _ _ (c .before .before .if1 .left), too-long (c .before)) (c .refusal2 .ensures);
+  table = rw (eq-eqb _ _ (c .before .before .if1 .left), too-long (c .before));
 }
 
 image-requires : tie.Need-image-requires

@@ -34,7 +34,7 @@ drawables-requires c κs =
     let layers = c .before .before .before .pointers .ensures in
     let small = canvas-small (c .before) in (
       (pre .0, small .0, small .1),
-      ((layers .1 .0, omega (arith, layers .1), pre .1), λ z. layers .1 .1 (live-before (c .before .before .pointers2 .ensures .0) z)),
+      ((omega (arith, layers .1 .0), omega (arith, layers .1), pre .1), λ z. layers .1 .1 (live-before (c .before .before .pointers2 .ensures .0) z)),
     )
 
 drawables-requires-2 : tie.Need-drawables-requires-2

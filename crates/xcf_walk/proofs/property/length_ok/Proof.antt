@@ -1,6 +1,7 @@
 -- `length_ok` meets its contract: its tests of the type and of the length listed for it are the definition's.
 use borrow.Author.Tests.{lt-ltb, le-ltb, eq-eqb, ne-eqb}
-use Rattle.xcf_walk.specs.Property.{lengthOk}
+use lib.ListN.{getD}
+use Rattle.xcf_walk.specs.Property.{any, lengths, lengthOk}
 use borrow.Author.Needs.{needs}
 use Rattle.xcf_walk.proofs.property.length_ok.Statement.{statement}
 use Rattle.xcf_walk.proofs.property.length_ok.Tie as tie
@@ -13,11 +14,11 @@ array-read-fixed c = search needs
 
 returns : tie.Need-returns
 unfolding lengthOk
-returns c = rw (lt-ltb _ _ (c .before .if1 .taken), eq-eqb _ _ (c .if2 .taken))
+returns c = rw (lt-ltb _ _ (c .before .if1 .taken), eq-eqb (getD lengths (c .before .before .args .kind) 0) any (c .if2 .taken))
 
 returns-2 : tie.Need-returns-2
 unfolding lengthOk
-returns-2 c = rw (lt-ltb _ _ (c .before .if1 .taken), ne-eqb _ _ (c .if2 .left))
+returns-2 c = rw (lt-ltb _ _ (c .before .if1 .taken), ne-eqb (getD lengths (c .before .before .args .kind) 0) any (c .if2 .left))
 
 returns-3 : tie.Need-returns-3
 unfolding lengthOk
