@@ -1,4 +1,5 @@
-/* XCF files, read; XCF tiles, decoded and encoded. Every function ends, touches only what it is lent, and answers by value.
+/* XCF files, read; their drawables, decoded; XCF tiles, decoded and encoded. Every function ends, touches only what it is
+ * lent, and answers by value.
  *
  * A pointer is never NULL, also where its length is 0; a buffer that is written overlaps no other. Nothing else is asked of
  * a caller: any bytes and any numbers may be lent.
@@ -18,7 +19,8 @@
  *   11  a lent buffer has the wrong length
  *   12  a string of nonzero length does not end in a zero byte
  *   13  a bad tile pointer or closing word
- *   14  the tile is unusable: sides are 1 to 64, depth is 1 to 4, compression is 0 (plain) or 1 (run-length encoded)
+ *   14  the tile is unusable: sides are 1 to 64, depth is 1 to 4, compression is 0 (plain) or 1 (run-length encoded);
+ *       or a row is, as said at xcf_decode
  *   15  the file is longer than 1,073,741,824 bytes
  *   16  a layer is a floating selection
  *   18  the encoding would exceed the lent output
@@ -82,6 +84,29 @@ typedef struct {
  * complement (a mask has its layer's, a channel 0); 14 mode (0 for a mask or channel); 15 the owning layer's row for a mask,
  * else its own. */
 xcf_read_answer xcf_read(const uint8_t *file, size_t file_length, uint32_t *table, size_t table_length);
+
+/* marked is how many tiles have a mark other than 0. */
+typedef struct {
+    uint64_t number;
+    uint64_t place;
+    uint64_t marked;
+} xcf_decode_answer;
+
+/* Decodes the drawable of a row: into exactly width * height * depth bytes of pixels, pixel by pixel over the whole drawable,
+ * top row first, left to right; and into one byte of marks for each tile, as in xcf_tile_answer. Tiles are 64 by 64, row by
+ * row, the last column and row smaller. All pixels of a marked tile are zero. What pixels and marks held before is not seen.
+ * The table and the compression are what xcf_read gave for the file, but neither is trusted. Refused are, in this order:
+ * 11 a table of other than 2,048 numbers; 15; 14 unless the row is below 128, its kind is 1 to 3, its sides are 1 to 16,384,
+ * its bytes per pixel 1 to 4, its tile count is that of its sides, its tile pointers and the word behind them lie in the file,
+ * and compression is 0 or 1; 11 pixels or marks of the wrong length; 13 at the lowest bad word: a tile pointer that is 0, not
+ * below the file's length or not above the one before, or the word behind them if it is not 0. */
+xcf_decode_answer xcf_decode(const uint8_t *file, size_t file_length, const uint32_t *table, size_t table_length, uint32_t row,
+                             uint32_t compression, uint8_t *pixels, size_t pixels_length, uint8_t *marks,
+                             size_t marks_length);
+
+/* Counts the marked tiles of the drawable of a row: the answer of xcf_decode, lent pixels and marks of the right lengths. */
+xcf_decode_answer xcf_count_marked(const uint8_t *file, size_t file_length, const uint32_t *table, size_t table_length,
+                                   uint32_t row, uint32_t compression);
 
 #ifdef __cplusplus
 }

@@ -1,13 +1,18 @@
 /* The header as a C program sees it: document 01's tile of depth 2 is decoded, what was encoded decodes to itself, and
- * document 01's whole file is read. */
+ * document 01's whole file is read and its channel decoded. */
 #include "xcf.h"
 
+#include <stddef.h>
 #include <stdio.h>
 #include <string.h>
 
 _Static_assert(sizeof(xcf_tile_answer) == 40, "five numbers of 64 bits");
 _Static_assert(sizeof(xcf_encode_answer) == 24, "three numbers of 64 bits");
 _Static_assert(sizeof(xcf_read_answer) == 64, "eight numbers of 64 bits");
+_Static_assert(sizeof(xcf_decode_answer) == 24, "three numbers of 64 bits");
+_Static_assert(offsetof(xcf_decode_answer, number) == 0, "the number comes first");
+_Static_assert(offsetof(xcf_decode_answer, place) == 8, "the place comes second");
+_Static_assert(offsetof(xcf_decode_answer, marked) == 16, "the count comes last");
 
 static int fails(const char *what) {
     fprintf(stderr, "header: %s\n", what);
@@ -73,6 +78,34 @@ static int reading_fails(void) {
     return 0;
 }
 
+static int answers(xcf_decode_answer d, uint64_t number, uint64_t place, uint64_t marked) {
+    return d.number == number && d.place == place && d.marked == marked;
+}
+
+static int decoding_fails(void) {
+    uint32_t table[2048];
+    uint8_t pixel = 0xaa, mark = 0xaa;
+    xcf_read(file, sizeof file, table, 2048);
+    xcf_decode_answer d = xcf_decode(file, sizeof file, table, 2048, 0, 1, &pixel, 1, &mark, 1);
+    if (!answers(d, 0, 0, 0) || pixel != 0xff || mark != 0)
+        return fails("the channel by xcf_decode");
+    if (!answers(xcf_count_marked(file, sizeof file, table, 2048, 0, 1), 0, 0, 0))
+        return fails("the channel by xcf_count_marked");
+
+    d = xcf_decode(file, sizeof file - 1, table, 2048, 0, 1, &pixel, 1, &mark, 1);
+    if (!answers(d, 0, 0, 1) || pixel != 0 || mark != 20)
+        return fails("a tile that is cut short by xcf_decode");
+    if (!answers(xcf_count_marked(file, sizeof file - 1, table, 2048, 0, 1), 0, 0, 1))
+        return fails("a tile that is cut short by xcf_count_marked");
+
+    d = xcf_decode(file, sizeof file, table, 2048, 128, 1, &pixel, 1, &mark, 1);
+    if (!answers(d, 14, 0, 0) || pixel != 0 || mark != 20)
+        return fails("the refusal of row 128");
+    if (!answers(xcf_count_marked(file, 141, table, 2048, 0, 1), 13, 133, 0))
+        return fails("the refusal of a tile pointer");
+    return 0;
+}
+
 int main(void) {
-    return tiles_fail() || reading_fails();
+    return tiles_fail() || reading_fails() || decoding_fails();
 }

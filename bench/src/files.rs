@@ -1,7 +1,8 @@
-//! The files that the readers are measured on. Sides are multiples of 64, so
+//! The files that the library is measured on. Sides are multiples of 64, so
 //! that every tile is a whole one.
 
-use xcf_compare::files::EXAMPLE;
+use xcf_compare::files::laid::{byte_property, property, with_byte};
+use xcf_compare::files::{DrawableFields, EXAMPLE, ImageFields, Layer, Writer, write_file};
 use xcf_compare::random::Random;
 
 /// Types in property lists.
@@ -26,8 +27,8 @@ const LOCK_CONTENT: u32 = 28;
 /// A stream of a white tile.
 const WHITE: [u8; 4] = [0x7F, 0x10, 0x00, 0xFF];
 
-/// Where the example's last word of structure stands.
-const CLOSING_WORD: usize = 137;
+/// The last byte of the example's last word of structure.
+const CLOSING_BYTE: usize = 140;
 
 /// The longest side there may be: 256 tiles.
 const LONGEST: u32 = 16_384;
@@ -41,184 +42,133 @@ pub const LARGE_POINTERS: usize = LARGE_ROWS * 65_536;
 /// A file of one layer with as many tiles as there may be, to which all the
 /// image's pointers lead.
 pub fn large(random: &mut Random) -> Vec<u8> {
+    let sides = [LONGEST; 2];
     let mut writer = Writer::default();
-    for pointer in writer.image(LONGEST, LONGEST, LARGE_ROWS, 0) {
+    for pointer in writer.image(&image(sides, 0), LARGE_ROWS, 0) {
         writer.lead_here(pointer);
     }
-    let layer = Layer {
-        number: 1,
-        width: LONGEST,
-        height: LONGEST,
-        has_mask: false,
-    };
-    writer.layer(random, layer);
+    writer.layer(&Layer {
+        kind: 0,
+        fields: white("Layer 1", sides, 3, layer_list(random, 1, false)),
+        mask: None,
+    });
     writer.file
 }
 
 /// A file of as many rows as there may be, with small sides.
 pub fn many(random: &mut Random) -> Vec<u8> {
-    let mut writer = Writer::default();
-    let (layers, channels) = (48, 32);
-    let pointers = writer.image(128, 128, layers, channels);
-    for (i, &pointer) in pointers.iter().enumerate() {
-        writer.lead_here(pointer);
-        if i < layers {
-            let layer = Layer {
-                number: i + 1,
-                width: random.pick(&[64, 128]),
-                height: random.pick(&[64, 128]),
-                has_mask: true,
-            };
-            writer.layer(random, layer);
-        } else {
-            let name = format!("Channel {}", i + 1 - layers);
-            writer.channel(random, &name, 128, 128);
-        }
-    }
-    writer.file
+    let layers: Vec<Layer> = (1..=48)
+        .map(|number| masked_layer(random, number))
+        .collect();
+    let sides = [128, 128];
+    let channels: Vec<DrawableFields> = (1..=32)
+        .map(|number| white(&format!("Channel {number}"), sides, 1, channel_list(random)))
+        .collect();
+    write_file(&image(sides, 0), &layers, &channels)
 }
 
 /// The example, refused at its last word of structure.
 pub fn refused() -> Vec<u8> {
-    let mut file = EXAMPLE.to_vec();
-    file[CLOSING_WORD + 3] = 1;
-    file
+    with_byte(&EXAMPLE, CLOSING_BYTE, 1)
 }
 
-struct Layer {
-    number: usize,
-    width: u32,
-    height: u32,
-    has_mask: bool,
+/// A file of one layer, of depth 1 or 4, with the tiles.
+pub fn one_layer(side: u32, depth: u32, tiles: Vec<Vec<u8>>) -> Vec<u8> {
+    let sides = [side; 2];
+    let (base, kind) = match depth {
+        1 => (1, 2),
+        _ => (0, 1),
+    };
+    let fields = DrawableFields {
+        sides,
+        name: "Layer".to_string(),
+        list: Vec::new(),
+        tiles,
+    };
+    let layer = Layer {
+        kind,
+        fields,
+        mask: None,
+    };
+    write_file(&image(sides, base), &[layer], &[])
 }
 
-#[derive(Default)]
-struct Writer {
-    file: Vec<u8>,
+fn image(sides: [u32; 2], base: u32) -> ImageFields {
+    let resolution = [0x42, 0x90, 0, 0, 0x42, 0x90, 0, 0];
+    ImageFields {
+        tag: b"file\0",
+        sides,
+        base,
+        list: [
+            byte_property(COMPRESSION, &[1]),
+            byte_property(RESOLUTION, &resolution),
+        ]
+        .concat(),
+    }
 }
 
-impl Writer {
-    fn words(&mut self, words: &[u32]) {
-        let bytes = words.iter().flat_map(|word| word.to_be_bytes());
-        self.file.extend(bytes);
+/// A drawable of white tiles.
+fn white(name: &str, sides: [u32; 2], depth: usize, list: Vec<u8>) -> DrawableFields {
+    let count = (sides[0] / 64) * (sides[1] / 64);
+    DrawableFields {
+        sides,
+        name: name.to_string(),
+        list,
+        tiles: vec![WHITE.repeat(depth); count as usize],
     }
+}
 
-    fn property(&mut self, kind: u32, payload: &[u8]) {
-        self.words(&[kind, payload.len() as u32]);
-        self.file.extend(payload);
+/// A layer of three bytes per pixel, with a mask.
+fn masked_layer(random: &mut Random, number: u32) -> Layer {
+    let sides = [random.pick(&[64, 128]), random.pick(&[64, 128])];
+    let name = format!("Layer {number}");
+    let list = layer_list(random, number, true);
+    let mask_list = channel_list(random);
+    Layer {
+        kind: 0,
+        fields: white(&name, sides, 3, list),
+        mask: Some(white(&format!("{name} mask"), sides, 1, mask_list)),
     }
+}
 
-    fn number(&mut self, kind: u32, value: usize) {
-        self.property(kind, &(value as u32).to_be_bytes());
-    }
+/// Properties that hold a number below the limit each.
+fn numbers(random: &mut Random, kinds: &[(u32, usize)]) -> Vec<u8> {
+    let number = |&(kind, limit): &(u32, usize)| property(kind, &[random.below(limit) as u32]);
+    kinds.iter().flat_map(number).collect()
+}
 
-    fn end_properties(&mut self) {
-        self.property(0, &[]);
+fn layer_list(random: &mut Random, number: u32, has_mask: bool) -> Vec<u8> {
+    let mut list = Vec::new();
+    if number == 1 {
+        list.extend(property(ACTIVE_LAYER, &[]));
     }
+    let switches = [(OPACITY, 256), (VISIBLE, 2), (LINKED, 2), (LOCK_ALPHA, 2)];
+    list.extend(numbers(random, &switches));
+    if has_mask {
+        let switches = [(APPLY_MASK, 2), (EDIT_MASK, 2), (SHOW_MASK, 2)];
+        list.extend(numbers(random, &switches));
+    }
+    list.extend(byte_property(OFFSETS, &random.bytes(8)));
+    list.extend(numbers(random, &[(MODE, 22)]));
+    if random.one_in(2) {
+        list.extend(property(TATTOO, &[number]));
+    }
+    list
+}
 
-    fn name(&mut self, name: &str) {
-        self.words(&[name.len() as u32 + 1]);
-        self.file.extend(name.as_bytes());
-        self.file.push(0);
+/// The list of a channel or mask.
+fn channel_list(random: &mut Random) -> Vec<u8> {
+    let kinds = [
+        (OPACITY, 256),
+        (VISIBLE, 2),
+        (LINKED, 2),
+        (LOCK_CONTENT, 2),
+        (SHOW_MASKED, 2),
+    ];
+    let mut list = numbers(random, &kinds);
+    list.extend(byte_property(COLOUR, &random.bytes(3)));
+    if random.one_in(2) {
+        list.extend(property(TATTOO, &[random.between(1, 1_000) as u32]));
     }
-
-    /// Appends a pointer that leads nowhere yet; gives its place.
-    fn pointer(&mut self) -> usize {
-        self.words(&[0]);
-        self.file.len() - 4
-    }
-
-    /// Lets the pointer at `place` lead to what is appended next.
-    fn lead_here(&mut self, place: usize) {
-        let here = self.file.len() as u32;
-        self.file[place..place + 4].copy_from_slice(&here.to_be_bytes());
-    }
-
-    /// Appends an RGB image's structure; gives the places of the pointers to
-    /// layers and channels.
-    fn image(&mut self, width: u32, height: u32, layers: usize, channels: usize) -> Vec<usize> {
-        self.file.extend(b"gimp xcf file\0");
-        self.words(&[width, height, 0]);
-        self.property(COMPRESSION, &[1]);
-        self.property(RESOLUTION, &[0x42, 0x90, 0, 0, 0x42, 0x90, 0, 0]);
-        self.end_properties();
-        let mut pointers: Vec<usize> = (0..layers).map(|_| self.pointer()).collect();
-        self.words(&[0]);
-        pointers.extend((0..channels).map(|_| self.pointer()));
-        self.words(&[0]);
-        pointers
-    }
-
-    /// Appends a layer of three bytes per pixel and all that belongs to it.
-    fn layer(&mut self, random: &mut Random, layer: Layer) {
-        let Layer { width, height, .. } = layer;
-        let name = format!("Layer {}", layer.number);
-        self.words(&[width, height, 0]);
-        self.name(&name);
-        self.layer_properties(random, &layer);
-        let hierarchy = self.pointer();
-        let mask = self.pointer();
-        self.lead_here(hierarchy);
-        self.hierarchy(width, height, 3);
-        if layer.has_mask {
-            self.lead_here(mask);
-            self.channel(random, &format!("{name} mask"), width, height);
-        }
-    }
-
-    fn layer_properties(&mut self, random: &mut Random, layer: &Layer) {
-        if layer.number == 1 {
-            self.property(ACTIVE_LAYER, &[]);
-        }
-        self.number(OPACITY, random.below(256));
-        self.number(VISIBLE, random.below(2));
-        self.number(LINKED, random.below(2));
-        self.number(LOCK_ALPHA, random.below(2));
-        if layer.has_mask {
-            self.number(APPLY_MASK, random.below(2));
-            self.number(EDIT_MASK, random.below(2));
-            self.number(SHOW_MASK, random.below(2));
-        }
-        self.property(OFFSETS, &random.bytes(8));
-        self.number(MODE, random.below(22));
-        if random.one_in(2) {
-            self.number(TATTOO, layer.number);
-        }
-        self.end_properties();
-    }
-
-    /// Appends a channel or mask and all that belongs to it.
-    fn channel(&mut self, random: &mut Random, name: &str, width: u32, height: u32) {
-        self.words(&[width, height]);
-        self.name(name);
-        self.number(OPACITY, random.below(256));
-        self.number(VISIBLE, random.below(2));
-        self.number(LINKED, random.below(2));
-        self.number(LOCK_CONTENT, random.below(2));
-        self.number(SHOW_MASKED, random.below(2));
-        self.property(COLOUR, &random.bytes(3));
-        if random.one_in(2) {
-            self.number(TATTOO, random.between(1, 1_000));
-        }
-        self.end_properties();
-        let hierarchy = self.pointer();
-        self.lead_here(hierarchy);
-        self.hierarchy(width, height, 1);
-    }
-
-    /// Appends a hierarchy, its level and white tiles.
-    fn hierarchy(&mut self, width: u32, height: u32, depth: usize) {
-        self.words(&[width, height, depth as u32]);
-        let level = self.pointer();
-        self.words(&[0]);
-        self.lead_here(level);
-        self.words(&[width, height]);
-        let count = (width / 64) * (height / 64);
-        let tiles: Vec<usize> = (0..count).map(|_| self.pointer()).collect();
-        self.words(&[0]);
-        for tile in tiles {
-            self.lead_here(tile);
-            self.file.extend(WHITE.repeat(depth));
-        }
-    }
+    list
 }

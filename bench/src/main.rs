@@ -1,8 +1,11 @@
 //! Measures the library's decoder and encoder against plain Rust ones, in one
-//! run, on 4,096 tiles of 64 by 64 pixels; then its reader, on whole files.
+//! run, on 4,096 tiles of 64 by 64 pixels; then its reader, on whole files, and
+//! its decoder of whole drawables.
 
+mod decoding;
 mod files;
 mod plain;
+mod plain_decode;
 mod plain_read;
 mod reading;
 
@@ -154,4 +157,6 @@ fn main() {
     }
     println!();
     reading::compare_readers();
+    println!();
+    decoding::compare_decoders();
 }

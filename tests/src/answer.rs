@@ -26,7 +26,7 @@ pub const WRONG_LENGTH: u64 = 11;
 pub const UNENDED_STRING: u64 = 12;
 /// A bad tile pointer or closing word.
 pub const BAD_TILE_POINTER: u64 = 13;
-/// A side, depth or compression is unusable.
+/// A row, or a side, depth or compression, is unusable.
 pub const UNUSABLE: u64 = 14;
 /// The file is too long.
 pub const FILE_TOO_LONG: u64 = 15;
@@ -51,6 +51,12 @@ pub const WINDOW_LIMIT: usize = 24_576;
 /// Longer files are refused.
 pub const FILE_LIMIT: usize = 1_073_741_824;
 
+/// Longer files are not listed.
+pub const LIST_LIMIT: usize = 32_768;
+
+/// Longer sides are refused.
+pub const SIDE_LIMIT: u32 = 16_384;
+
 /// Numbers in a row of the table.
 pub const ROW_LENGTH: usize = 16;
 
@@ -66,6 +72,10 @@ pub type Decode = fn(&[u8], u32, u32, u32, u32, &mut [u8]) -> TileAnswer;
 pub type Encode = fn(&[u8], u32, u32, u32, &mut [u8]) -> WriteAnswer;
 /// A reader: file, table.
 pub type Read = fn(&[u8], &mut [u32]) -> ReadAnswer;
+/// A decoder of drawables: file, table, row, compression, pixels, marks.
+pub type DecodeDrawable = fn(&[u8], &[u32], u32, u32, &mut [u8], &mut [u8]) -> DecodeAnswer;
+/// A counter of marked tiles: file, table, row, compression.
+pub type CountMarked = fn(&[u8], &[u32], u32, u32) -> DecodeAnswer;
 
 /// The answer to decoding a tile.
 #[repr(C)]
@@ -152,6 +162,33 @@ impl ReadAnswer {
             version: 0,
             compression: 0,
             rows: 0,
+        }
+    }
+}
+
+/// The answer to decoding a drawable, or to counting its marked tiles.
+#[repr(C)]
+#[derive(Clone, Copy, Debug, PartialEq, Eq)]
+pub struct DecodeAnswer {
+    pub number: u64,
+    pub place: u64,
+    pub marked: u64,
+}
+
+impl DecodeAnswer {
+    pub fn refused(number: u64, place: usize) -> Self {
+        DecodeAnswer {
+            number,
+            place: place as u64,
+            marked: 0,
+        }
+    }
+
+    pub fn decoded(marked: usize) -> Self {
+        DecodeAnswer {
+            number: 0,
+            place: 0,
+            marked: marked as u64,
         }
     }
 }

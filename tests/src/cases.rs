@@ -1,6 +1,7 @@
 //! Random cases for comparing the reference with the library.
 
 pub mod decode;
+pub mod drawable;
 pub mod encode;
 
 use crate::random::Random;

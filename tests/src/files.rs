@@ -1,18 +1,25 @@
 //! Random files for comparing the reference reader with the library.
 
-mod block;
+pub(crate) mod block;
 mod builder;
 mod damage;
-mod drawable;
+pub(crate) mod drawable;
 mod example;
 mod fault;
+pub mod laid;
 mod property;
+mod writer;
 
-pub use builder::{BuiltFile, random_file};
+pub use builder::{BuiltFile, decodable_file, random_file};
 pub use example::EXAMPLE;
+pub use writer::{DrawableFields, ImageFields, Layer, Writer, write_file};
 
 use crate::answer::{ReadAnswer, Row, TABLE_LENGTH, WRONG_LENGTH};
 use crate::random::Random;
+
+/// Bytes per pixel of the layer types 0 to 5. Not shared with the reference: a
+/// mistake there must not be one in the files that test it.
+pub const DEPTHS: [u32; 6] = [3, 4, 1, 2, 1, 2];
 
 /// How a file was made.
 #[derive(Clone, Copy, Debug, PartialEq, Eq, PartialOrd, Ord)]
@@ -80,8 +87,15 @@ impl FileCase {
     }
 }
 
+/// The table with these rows and no others.
+pub fn table_of(rows: &[Row]) -> Vec<u32> {
+    let mut table = rows.concat();
+    table.resize(TABLE_LENGTH, 0);
+    table
+}
+
 /// Random numbers for a table.
-fn random_table(random: &mut Random, length: usize) -> Vec<u32> {
+pub fn random_table(random: &mut Random, length: usize) -> Vec<u32> {
     (0..length).map(|_| random.word() as u32).collect()
 }
 

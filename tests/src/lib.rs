@@ -1,12 +1,18 @@
 //! Compares the static library with an independent implementation of the
-//! rules for one tile and for reading a whole file.
+//! rules: for one tile, for reading a whole file, for decoding a drawable.
 
 pub mod answer;
 pub mod cases;
+pub mod decode;
 pub mod files;
+pub mod folder;
+pub mod guard;
 pub mod library;
+pub mod list;
+pub mod list_cases;
 pub mod random;
 pub mod read;
+pub mod tally;
 pub mod tile;
 pub mod vectors;
 

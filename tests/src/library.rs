@@ -1,6 +1,6 @@
 //! The static library's functions, with safe wrappers.
 
-use crate::answer::{ReadAnswer, TileAnswer, WriteAnswer};
+use crate::answer::{DecodeAnswer, ReadAnswer, TileAnswer, WriteAnswer};
 
 unsafe extern "C" {
     fn xcf_decode_tile(
@@ -30,6 +30,28 @@ unsafe extern "C" {
         table: *mut u32,
         table_length: usize,
     ) -> ReadAnswer;
+
+    fn xcf_decode(
+        file: *const u8,
+        file_length: usize,
+        table: *const u32,
+        table_length: usize,
+        row: u32,
+        compression: u32,
+        pixels: *mut u8,
+        pixels_length: usize,
+        marks: *mut u8,
+        marks_length: usize,
+    ) -> DecodeAnswer;
+
+    fn xcf_count_marked(
+        file: *const u8,
+        file_length: usize,
+        table: *const u32,
+        table_length: usize,
+        row: u32,
+        compression: u32,
+    ) -> DecodeAnswer;
 }
 
 pub fn decode_tile(
@@ -82,4 +104,44 @@ pub fn read(file: &[u8], table: &mut [u32]) -> ReadAnswer {
     // SAFETY: both slices are valid for their lengths during the call, and
     // they do not overlap.
     unsafe { xcf_read(file.as_ptr(), file.len(), table.as_mut_ptr(), table.len()) }
+}
+
+pub fn decode(
+    file: &[u8],
+    table: &[u32],
+    row: u32,
+    compression: u32,
+    pixels: &mut [u8],
+    marks: &mut [u8],
+) -> DecodeAnswer {
+    // SAFETY: all four slices are valid for their lengths during the call, and
+    // none overlaps another.
+    unsafe {
+        xcf_decode(
+            file.as_ptr(),
+            file.len(),
+            table.as_ptr(),
+            table.len(),
+            row,
+            compression,
+            pixels.as_mut_ptr(),
+            pixels.len(),
+            marks.as_mut_ptr(),
+            marks.len(),
+        )
+    }
+}
+
+pub fn count_marked(file: &[u8], table: &[u32], row: u32, compression: u32) -> DecodeAnswer {
+    // SAFETY: both slices are valid for their lengths during the call.
+    unsafe {
+        xcf_count_marked(
+            file.as_ptr(),
+            file.len(),
+            table.as_ptr(),
+            table.len(),
+            row,
+            compression,
+        )
+    }
 }

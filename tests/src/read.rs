@@ -6,6 +6,8 @@ mod drawable;
 mod image;
 mod property;
 
+use std::ops::Range;
+
 use crate::answer::{
     FILE_LIMIT, FILE_TOO_LONG, ROW_LENGTH, ReadAnswer, TABLE_LENGTH, WRONG_LENGTH,
 };
@@ -36,6 +38,16 @@ pub fn read(file: &[u8], table: &mut [u32]) -> ReadAnswer {
         }
         Err(refusal) => ReadAnswer::refused(refusal.number, refusal.place),
     }
+}
+
+/// Where the structure bytes of a file lie that is accepted: all that the walk
+/// passes over, a range for each structure, which may come again or overlap
+/// others.
+pub fn structure_bytes(file: &[u8]) -> Option<Vec<Range<usize>>> {
+    if file.len() > FILE_LIMIT {
+        return None;
+    }
+    Image::read(file).ok().map(|image| image.passed)
 }
 
 fn accepted(image: &Image) -> ReadAnswer {

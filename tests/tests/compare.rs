@@ -8,6 +8,7 @@ use xcf_compare::answer::{
 };
 use xcf_compare::cases::decode::{self, DecodeCase};
 use xcf_compare::cases::encode::{self, EncodeCase};
+use xcf_compare::guard::{Guarded, difference};
 use xcf_compare::random::Random;
 use xcf_compare::{library, report, tile};
 
@@ -16,54 +17,34 @@ const ENCODE_SEED: u64 = 0x656E_636F_6465_0001;
 const DECODE_CASES: usize = 80_000;
 const ENCODE_CASES: usize = 40_000;
 
-/// Bytes around a lent buffer, none of which may change.
-const GUARD: usize = 32;
-
-/// `bytes` with guards before and behind.
-fn guarded(bytes: &[u8]) -> Vec<u8> {
-    [&[0x3C; GUARD], bytes, &[0xC3; GUARD]].concat()
-}
-
-/// The lent buffer between its guards.
-fn lent(buffer: &mut [u8]) -> &mut [u8] {
-    let end = buffer.len() - GUARD;
-    &mut buffer[GUARD..end]
-}
-
-/// Where two buffers differ first, if they do.
-fn difference(one: &[u8], other: &[u8]) -> Option<usize> {
-    assert_eq!(one.len(), other.len());
-    (0..one.len()).find(|&place| one[place] != other[place])
-}
-
 /// Decodes with both and asserts that all is equal; gives the answer and the
 /// pixels.
 fn decode_both(case: &DecodeCase) -> (TileAnswer, Vec<u8>) {
     let (width, height, depth) = (case.width, case.height, case.depth);
     let (window, compression) = (&case.window, case.compression);
-    let mut ours = guarded(&case.pixels);
+    let mut ours = Guarded::new(&case.pixels);
     let mut theirs = ours.clone();
-    let pixels = lent(&mut ours);
+    let pixels = ours.lent();
     let expected = tile::decode_tile(window, width, height, depth, compression, pixels);
-    let pixels = lent(&mut theirs);
+    let pixels = theirs.lent();
     let given = library::decode_tile(window, width, height, depth, compression, pixels);
     assert_eq!(given, expected, "{}", case.summary());
-    assert_eq!(difference(&theirs, &ours), None, "{}", case.summary());
-    (expected, lent(&mut ours).to_vec())
+    assert_eq!(theirs.difference(&ours), None, "{}", case.summary());
+    (expected, ours.lent().to_vec())
 }
 
 /// Encodes with both and asserts that all is equal; gives the answer.
 fn encode_both(case: &EncodeCase) -> WriteAnswer {
     let (width, height, depth) = (case.width, case.height, case.depth);
     let pixels = &case.pixels;
-    let mut ours = guarded(&case.output);
+    let mut ours = Guarded::new(&case.output);
     let mut theirs = ours.clone();
-    let expected = tile::encode_tile(pixels, width, height, depth, lent(&mut ours));
-    let given = library::encode_tile(pixels, width, height, depth, lent(&mut theirs));
+    let expected = tile::encode_tile(pixels, width, height, depth, ours.lent());
+    let given = library::encode_tile(pixels, width, height, depth, theirs.lent());
     assert_eq!(given, expected, "{}", case.summary());
-    assert_eq!(difference(&theirs, &ours), None, "{}", case.summary());
+    assert_eq!(theirs.difference(&ours), None, "{}", case.summary());
     let beyond = expected.length as usize..;
-    assert!(lent(&mut ours)[beyond.clone()] == case.output[beyond]);
+    assert!(ours.lent()[beyond.clone()] == case.output[beyond]);
     expected
 }
 

@@ -1,57 +1,30 @@
 //! Compares the library's reader with the reference: equal answers, equal
 //! tables.
 
-use std::collections::BTreeMap;
-
 use xcf_compare::answer::{FILE_LIMIT, FILE_TOO_LONG, NOT_XCF, ReadAnswer, Row, TABLE_LENGTH};
-use xcf_compare::files::{EXAMPLE, FileCase, Kind, Known, random_case, random_file};
+use xcf_compare::files::{EXAMPLE, FileCase, Kind, Known, random_case, random_file, table_of};
+use xcf_compare::guard::{Guarded, difference};
 use xcf_compare::random::Random;
+use xcf_compare::tally::Tally;
 use xcf_compare::{library, read, report};
 
 const FILES_SEED: u64 = 0x6669_6C65_7300_0001;
 const CUTS_SEED: u64 = 0x6375_7473_0000_0001;
 const FILE_CASES: usize = 60_000;
 
-/// Numbers around a lent table, none of which may change.
-const GUARD: usize = 16;
-
 /// The refusals that a file of a usable length can meet.
 const NUMBERS: [u64; 14] = [1, 2, 3, 4, 5, 6, 7, 8, 9, 10, 11, 12, 13, 16];
-
-/// `table` with guards before and behind.
-fn guarded(table: &[u32]) -> Vec<u32> {
-    [&[0x3C3C_3C3C; GUARD], table, &[0xC3C3_C3C3; GUARD]].concat()
-}
-
-/// The lent table between its guards.
-fn lent(buffer: &mut [u32]) -> &mut [u32] {
-    let end = buffer.len() - GUARD;
-    &mut buffer[GUARD..end]
-}
-
-/// Where two tables differ first, if they do.
-fn difference(one: &[u32], other: &[u32]) -> Option<usize> {
-    assert_eq!(one.len(), other.len());
-    (0..one.len()).find(|&place| one[place] != other[place])
-}
 
 /// Reads with both and asserts that all is equal; gives the answer and the
 /// table.
 fn read_both(case: &FileCase) -> (ReadAnswer, Vec<u32>) {
-    let mut ours = guarded(&case.table);
+    let mut ours = Guarded::new(&case.table);
     let mut theirs = ours.clone();
-    let expected = read::read(&case.file, lent(&mut ours));
-    let given = library::read(&case.file, lent(&mut theirs));
+    let expected = read::read(&case.file, ours.lent());
+    let given = library::read(&case.file, theirs.lent());
     assert_eq!(given, expected, "{}", case.summary());
-    assert_eq!(difference(&theirs, &ours), None, "{}", case.summary());
-    (expected, lent(&mut ours).to_vec())
-}
-
-/// The table with these rows and no others.
-fn table_of(rows: &[Row]) -> Vec<u32> {
-    let mut table = rows.concat();
-    table.resize(TABLE_LENGTH, 0);
-    table
+    assert_eq!(theirs.difference(&ours), None, "{}", case.summary());
+    (expected, ours.lent().to_vec())
 }
 
 /// Asserts that an answer and a table are the known ones.
@@ -62,44 +35,6 @@ fn assert_known(case: &FileCase, known: &Known, answer: ReadAnswer, table: &[u32
     };
     assert_eq!(answer, known.answer, "{}", case.summary());
     assert_eq!(difference(table, &expected), None, "{}", case.summary());
-}
-
-/// How many files of each kind came to each number.
-#[derive(Default)]
-struct Tally {
-    counts: BTreeMap<(Kind, u64), usize>,
-}
-
-impl Tally {
-    fn add(&mut self, kind: Kind, number: u64) {
-        *self.counts.entry((kind, number)).or_default() += 1;
-    }
-
-    /// Files of all kinds with the number.
-    fn all(&self, number: u64) -> usize {
-        let matching = self.counts.iter().filter(|(key, _)| key.1 == number);
-        matching.map(|(_, count)| count).sum()
-    }
-
-    /// Files of one kind with the number.
-    fn of(&self, kind: Kind, number: u64) -> usize {
-        self.counts.get(&(kind, number)).copied().unwrap_or(0)
-    }
-
-    /// Prints, for each kind, how many files came to each number.
-    fn report(&self, title: &str) {
-        let mut lines: BTreeMap<Kind, String> = BTreeMap::new();
-        for ((kind, number), count) in &self.counts {
-            let line = lines.entry(*kind).or_default();
-            line.push_str(&match number {
-                0 => format!(" {count} accepted"),
-                number => format!(" {count} refused {number}"),
-            });
-        }
-        for (kind, line) in lines {
-            report(&format!("{title}, {kind:?}:{line}"));
-        }
-    }
 }
 
 #[test]
@@ -130,7 +65,7 @@ fn files_agree() {
 
 /// Asserts that every outcome is there often enough to be worth running, and
 /// that each kind of damage comes to several.
-fn assert_varied(tally: &Tally) {
+fn assert_varied(tally: &Tally<Kind>) {
     assert!((12_000..45_000).contains(&tally.all(0)));
     let sum: usize = NUMBERS.iter().map(|&number| tally.all(number)).sum();
     assert_eq!(sum + tally.all(0), FILE_CASES);

@@ -1,2 +1,3 @@
 pub mod ExampleRead
+pub mod ExampleDamaged
 pub mod Theorems

@@ -17,8 +17,14 @@ use Rattle.xcf_walk.proofs.Depends.{outcome-depends}
 use Rattle.xcf_read.proofs.Accepted.{accepted-exactly}
 use Rattle.xcf_read.proofs.ReadDepends.{read-depends}
 use Rattle.xcf_read.proofs.Numbers.{refusals-listed}
+use Rattle.xcf_tile.proofs.Marks.{mark-listed}
+use Rattle.xcf_decode.proofs.PixelLaws.{pixel-byte, one-tile, tile-shown}
+use Rattle.xcf_decode.proofs.Counted.{count-decoded}
+use Rattle.xcf_decode.proofs.RowDecoded.{row-decoded}
+use Rattle.xcf_decode.proofs.Isolated.{isolated}
 use Rattle.xcf.proofs.ExampleRead.{example-read}
-use Rattle.xcf.specs.Statements.{ExamplesHold, PassedBytesDecide, StructureBytesDecide, RefusalsAreListed, AcceptedWithoutFault, ExampleFileIsRead, ConsumedBytesDecide, ConsumedBytesDecideTheCall, PixelsAreStreams, PixelsAreWhole, MarkedPixelsAreZero, EncodedStreamBounded, StreamReadsBack, TileReadsBack, EncodedTileFits}
+use Rattle.xcf.proofs.ExampleDamaged.{example-damaged}
+use Rattle.xcf.specs.Statements.{ExamplesHold, PassedBytesDecide, StructureBytesDecide, RefusalsAreListed, AcceptedWithoutFault, ExampleFileIsRead, DamageIsIsolated, ExampleIsDamaged, AcceptedRowsDecode, PixelsAreTheirTiles, EachPixelHasOneTile, TilesAreShown, CountIsTheDecoders, MarksAreListed, ConsumedBytesDecide, ConsumedBytesDecideTheCall, PixelsAreStreams, PixelsAreWhole, MarkedPixelsAreZero, EncodedStreamBounded, StreamReadsBack, TileReadsBack, EncodedTileFits}
 
 pub examples-hold : ExamplesHold
 unfolding headOf headAt operationOf operationAt streamFrom streamWithin streamAt streamsAt pixel interleave encodedTile tileIn tileOf leading equalBytes copiedBytes firstSegment segmentsWithin segments written writtenAll encodeStream
@@ -39,6 +45,30 @@ accepted-without-fault = accepted-exactly
 
 pub example-file-is-read : ExampleFileIsRead
 example-file-is-read = example-read
+
+pub damage-is-isolated : DamageIsIsolated
+damage-is-isolated = isolated
+
+pub example-is-damaged : ExampleIsDamaged
+example-is-damaged = example-damaged
+
+pub accepted-rows-decode : AcceptedRowsDecode
+accepted-rows-decode = row-decoded
+
+pub pixels-are-their-tiles : PixelsAreTheirTiles
+pixels-are-their-tiles = pixel-byte
+
+pub each-pixel-has-one-tile : EachPixelHasOneTile
+each-pixel-has-one-tile = one-tile
+
+pub tiles-are-shown : TilesAreShown
+tiles-are-shown = tile-shown
+
+pub count-is-the-decoders : CountIsTheDecoders
+count-is-the-decoders = count-decoded
+
+pub marks-are-listed : MarksAreListed
+marks-are-listed = mark-listed
 
 pub consumed-bytes-decide : ConsumedBytesDecide
 consumed-bytes-decide = consumed-decides

@@ -1,3 +1,4 @@
 pub mod Examples
 pub mod ExampleFile
+pub mod DamagedExample
 pub mod Statements

@@ -1,6 +1,7 @@
 -- The theorems of the library, each in full. `proofs/Theorems.antt` proves each by a citation.
 use mathlib.Core.Path.{_≡_}
 use mathlib.Core.Bool.{true}
+use mathlib.Core.Logic.{_⊎_}
 use mathlib.Core.List.{List, [], _++_}
 use Prim.Native.Nat.{ℕ, _+_, _-_, _*_, _/_, _≤_, _<_}
 use lib.ListN.{length, getD, take, replicate}
@@ -11,10 +12,15 @@ use Rattle.xcf_tile.specs.Answer.{Decoded}
 use Rattle.xcf_encode.specs.Segment.{segments, encodeStream}
 use Rattle.xcf_encode.specs.Tile.{planes, operationsOf, encodeTile}
 use Rattle.xcf_walk.specs.Walk.{Walk, got, refused, run, PassedOver}
-use Rattle.xcf_table.specs.Table.{rowSize, tableSize}
+use Rattle.xcf_table.specs.Table.{rowSize, tableSize, rowAt}
 use Rattle.xcf_read.specs.Hierarchy.{pointerSize}
 use Rattle.xcf_read.specs.Image.{Image, image, structureByte}
 use Rattle.xcf_read.specs.Answer.{fileLimit, refusals, listed, reading}
+use Rattle.xcf_tile.specs.Grid.{tileWidth, tileHeight, tileCount}
+use Rattle.xcf_decode.specs.Pixels.{HasPixel, tileAt, byteOf, byteIn, pixelsOf, shown}
+use Rattle.xcf_decode.specs.Answer.{fits, rowDecoding, decoding, counting}
+use Rattle.xcf_decode.specs.Isolation.{rowOf, Isolation}
+use Rattle.xcf.specs.DamagedExample.{DamagedExample}
 use Rattle.xcf.specs.ExampleFile.{exampleFile, exampleRow}
 use Rattle.xcf.specs.Examples.{table, All}
 
@@ -56,6 +62,57 @@ ExampleFileIsRead =
       answer = record { number = 0; place = 0; width = 1; height = 1; base = 1; version = 0; compression = 1; rows = 1 };
       table = exampleRow ++ replicate (tableSize - rowSize) 0;
     }
+
+-- Demand 3: damage inside the windows of some tiles changes nothing outside them. One claim over all rows and tiles of any accepted
+-- file, in full in `xcf_decode/specs/Isolation.antt`.
+abbrev pub DamageIsIsolated : Type 1
+DamageIsIsolated = Isolation
+
+-- It is not empty: a copy of the example file with a byte of its tile's window changed is damaged so, and the tile is good in one file
+-- and marked in the other.
+abbrev pub ExampleIsDamaged : Type 0
+ExampleIsDamaged = (lent : List ℕ) → length lent ≡ tableSize → (pixel mark : ℕ) → DamagedExample lent pixel mark
+
+-- The decoder refuses no row of an accepted file, where the lent buffers fit.
+abbrev pub AcceptedRowsDecode : Type 0
+AcceptedRowsDecode =
+    (file lent : List ℕ) →
+    let x = reading file lent in
+    x .answer .number ≡ 0 → (k : ℕ) → k < x .answer .rows → (pixels marks : List ℕ) → fits (rowOf x k) (length pixels) (length marks) ≡ true
+    → decoding file (x .table) k (x .answer .compression) pixels marks ≡ rowDecoding pointerSize file (rowOf x k) (x .answer .compression)
+
+-- Byte k of pixel (x, y) of a drawable is byte k of that pixel in its own tile.
+abbrev pub PixelsAreTheirTiles : Type 0
+PixelsAreTheirTiles =
+    (tiles : ℕ → List ℕ) (width height depth x y k : ℕ) → x < width → y < height → k < depth
+    → getD (pixelsOf tiles width height depth) (byteOf width depth x y k) 0 ≡ byteIn tiles width depth x y k
+
+-- Each pixel has exactly one tile.
+abbrev pub EachPixelHasOneTile : Type 0
+EachPixelHasOneTile =
+    (width height x y : ℕ) → x < width → y < height
+    → (tileAt width x y < tileCount width height)
+    × HasPixel width height (tileAt width x y) x y
+    × ((t : ℕ) → t < tileCount width height → HasPixel width height t x y → t ≡ tileAt width x y)
+
+-- So what a drawable's pixels show of a tile is that tile.
+abbrev pub TilesAreShown : Type 0
+TilesAreShown =
+    (tiles : ℕ → List ℕ) (width height depth t : ℕ) → 1 ≤ width → 1 ≤ depth → t < tileCount width height
+    → length (tiles t) ≡ tileWidth width t * tileHeight width height t * depth
+    → shown width height depth t (pixelsOf tiles width height depth) ≡ tiles t
+
+-- The count of marked tiles that asks for no buffers is the decoder's.
+abbrev pub CountIsTheDecoders : Type 0
+CountIsTheDecoders =
+    (file table : List ℕ) (k compression : ℕ) (pixels marks : List ℕ) → fits (rowAt table k) (length pixels) (length marks) ≡ true
+    → counting file table k compression ≡ decoding file table k compression pixels marks .answer
+
+-- A tile's mark is 0, 20 or 21.
+abbrev pub MarksAreListed : Type 0
+MarksAreListed =
+    (window : List ℕ) (w h depth compression : ℕ) →
+    let m = tileOf window w h depth compression .mark in (m ≡ 0) ⊎ ((m ≡ 20) ⊎ (m ≡ 21))
 
 -- A good tile depends only on the bytes it consumed: another window that has them first gives the same tile.
 abbrev pub ConsumedBytesDecide : Type 0

@@ -1,7 +1,10 @@
 // The exported C interface.
+ghost use mathlib.Core.Path.{_≡_};
 ghost use Rattle.xcf_tile.specs.Answer.{Decoded};
 ghost use Rattle.xcf_encode.specs.Answer.{TileEncoded};
 ghost use Rattle.xcf_read.specs.Answer.{Read};
+ghost use Rattle.xcf_decode.specs.Answer.{counting, Decodes};
+use xcf_decode::DecodeAnswer;
 use xcf_encode::EncodeAnswer;
 use xcf_read::ReadAnswer;
 use xcf_tile::TileAnswer;
@@ -12,6 +15,34 @@ pub extern "C" fn xcf_read(file: &[u8], table: &mut [u32]) -> ReadAnswer
     ensures { λ r. ⌜ Read (now (file .entry)) (now (table .entry)) r (now (table .exit)) ⌝ }
 {
     xcf_read::read(file, table)
+}
+
+// The pixels of the table's row `row`, and a mark for each of its tiles; tiles are plain for compression 0, encoded for 1.
+#[no_mangle]
+pub extern "C" fn xcf_decode(
+    file: &[u8],
+    table: &[u32],
+    row: u32,
+    compression: u32,
+    pixels: &mut [u8],
+    marks: &mut [u8],
+) -> DecodeAnswer
+    ensures { λ r. ⌜ Decodes (now (file .entry)) (now (table .entry)) row compression (now (pixels .entry)) (now (marks .entry)) r (now (pixels .exit)) (now (marks .exit)) ⌝ }
+{
+    xcf_decode::decode(file, table, row, compression, pixels, marks)
+}
+
+// How many tiles of the table's row `row` are marked: the decoder's count, with no buffers lent.
+#[no_mangle]
+pub extern "C" fn xcf_count_marked(
+    file: &[u8],
+    table: &[u32],
+    row: u32,
+    compression: u32,
+) -> DecodeAnswer
+    ensures { λ r. ⌜ r ≡ counting (now (file .entry)) (now (table .entry)) row compression ⌝ }
+{
+    xcf_decode::count_marked(file, table, row, compression)
 }
 
 // The tile of `width` by `height` pixels of `depth` bytes each in a window: plain for compression 0, encoded for 1.

@@ -8,3 +8,5 @@ pub mod Decided
 pub mod Numbers
 pub mod Accepted
 pub mod ReadDepends
+pub mod Ranges
+pub mod AcceptedRows

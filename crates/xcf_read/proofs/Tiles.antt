@@ -5,7 +5,7 @@ use Prim.Native.Nat.{ℕ, zero, suc, _+_, _-_, _*_, _≤_, _<_}
 use mathlib.Core.Path.{_≡_, refl, sym, _∙_, ap}
 use mathlib.Core.List.{List}
 use mathlib.Core.Logic.{_⊎_, inl, inr}
-use mathlib.Core.Bool.{Bool, true, false, cond, _&&_, false≢true}
+use mathlib.Core.Bool.{Bool, true, false, cond, _&&_, false≢true, and-eq-true-iff}
 use native.Mathlib.Nat.{add-zero, sub-zero}
 use native.Mathlib.Omega.{arith}
 use borrow.Author.Tests.{le-leb, leb-true, eqb-true, eqb-false}
@@ -42,11 +42,6 @@ word-there : (f : List ℕ) (at : ℕ) → at + 4 ≤ length f → Leads (at-pla
 unfolding word number skipped
 word-there f at fits = then _ (by-skip (at-place at) f 4 (rw (le-leb _ _ fits))) ends
 
-both : (a b : Bool) → (a && b) ≡ true → (a ≡ true) × (b ≡ true)
-both true true e = (refl, refl)
-both true false e = absurd (false≢true e)
-both false b e = absurd (false≢true e)
-
 must-hold : {c : Cursor} {f : List ℕ} (t : Bool) (n p : ℕ) → t ≡ true → Leads c (must t n p) f c tt
 unfolding must
 must-hold t n p e = rw e ends
@@ -62,7 +57,7 @@ one-past : (f : List ℕ) (n at before : ℕ) (r : Rising) → rises f at before
     → Past f (suc n) at before (record { count = r .count + 1; last = r .last })
 unfolding tiles word
 one-past f n at before r e rest d l =
-    let rise = both (leb (at + 4) (length f)) _ e in
+    let rise = and-eq-true-iff (leb (at + 4) (length f)) _ .0 e in
     let place : at + 4 * (r .count + 1) ≡ at + 4 + 4 * r .count = omega arith in
     let left : suc n - (r .count + 1) ≡ n - r .count = omega arith in
     then-here _ _ (λ _. refl) (then-length _ (then _ (word-there f at (leb-true _ _ (rise .0))) (then _ (must-hold _ _ _ (rise .1)) (rest d (rw (place, left) at l)))))

@@ -89,7 +89,7 @@ fn closes(count: u32, n: u32, p: u32) -> bool
 }
 
 // The pointers of n tiles and the closing word.
-fn tiles(cursor: Cursor, file: &[u8], n: u32) -> Cursor
+pub fn tiles(cursor: Cursor, file: &[u8], n: u32) -> Cursor
     ensures { λ r. ⌜ Leads cursor (tiles pointerSize n 0) (now (file .entry)) r tt ⌝ }
 {
     let right = right_tiles(cursor, file, n);

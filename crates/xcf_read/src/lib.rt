@@ -1,7 +1,7 @@
 // The reader: a file's structures, checked rule by rule, as rows of a lent table.
 mod drawable;
 pub mod header;
-mod hierarchy;
+pub mod hierarchy;
 mod image;
 
 ghost use mathlib.Core.Path.{_≡_};

@@ -2,7 +2,7 @@
 use Prim.Native.Nat.{ℕ, _+_, _-_, _*_}
 use mathlib.Core.List.{List, [], _∷_, _++_}
 use mathlib.Core.Bool.{cond}
-use lib.ListN.{length, take, replicate}
+use lib.ListN.{length, getD, take, replicate}
 use lib.Seq.{paste}
 use lib.Dec.{leb}
 use Rattle.xcf_table.specs.declared.Row.{Row}
@@ -37,6 +37,52 @@ putRow table k r = cond (leb (rowSize * (k + 1)) (length table)) (paste table (r
 -- a table with zeros from its row k on
 unfoldable pub clearFrom : List ℕ → ℕ → List ℕ
 clearFrom table k = take (rowSize * k) table ++ replicate (length table - rowSize * k) 0
+
+-- the 16 numbers from a place on, as a row
+abbrev pub rowIn : List ℕ → ℕ → Row
+rowIn table at = record {
+  kind = getD table at 0;
+  width = getD table (at + 1) 0;
+  height = getD table (at + 2) 0;
+  depth = getD table (at + 3) 0;
+  form = getD table (at + 4) 0;
+  name = getD table (at + 5) 0;
+  size = getD table (at + 6) 0;
+  list = getD table (at + 7) 0;
+  tiles = getD table (at + 8) 0;
+  count = getD table (at + 9) 0;
+  opacity = getD table (at + 10) 0;
+  flags = getD table (at + 11) 0;
+  dx = getD table (at + 12) 0;
+  dy = getD table (at + 13) 0;
+  mode = getD table (at + 14) 0;
+  owner = getD table (at + 15) 0;
+}
+
+-- the numbers of a row that is not used
+abbrev pub unusedRow : Row
+unusedRow = record {
+  kind = 0;
+  width = 0;
+  height = 0;
+  depth = 0;
+  form = 0;
+  name = 0;
+  size = 0;
+  list = 0;
+  tiles = 0;
+  count = 0;
+  opacity = 0;
+  flags = 0;
+  dx = 0;
+  dy = 0;
+  mode = 0;
+  owner = 0;
+}
+
+-- row k of a table, or an unused row where the table has no such row
+unfoldable pub rowAt : List ℕ → ℕ → Row
+rowAt table k = cond (leb (rowSize * (k + 1)) (length table)) (rowIn table (rowSize * k)) unusedRow
 
 -- the first k rows of a table
 abbrev pub rowsIn : ℕ → List ℕ → Rows

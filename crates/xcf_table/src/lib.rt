@@ -3,7 +3,7 @@ ghost use mathlib.Core.Path.{_≡_};
 ghost use Prim.Native.Nat.{_+_, _≤_};
 ghost use lib.ListN.{length};
 ghost use lib.Seq.{paste};
-ghost use Rattle.xcf_table.specs.Table.{rowSize, rowNumbers, putRow, clearFrom};
+ghost use Rattle.xcf_table.specs.Table.{rowSize, rowNumbers, putRow, rowIn, unusedRow, rowAt, clearFrom};
 
 pub const ROW_SIZE: usize = 16;
 
@@ -75,6 +75,65 @@ pub fn put_row(table: &mut [u32], k: u32, row: Row)
     if at + ROW_SIZE <= table.len() {
         put(table, at, row.numbers());
     }
+}
+
+fn unused_row() -> Row
+    ensures { λ r. ⌜ r ≡ unusedRow ⌝ }
+{
+    Row {
+        kind: 0,
+        width: 0,
+        height: 0,
+        depth: 0,
+        form: 0,
+        name: 0,
+        size: 0,
+        list: 0,
+        tiles: 0,
+        count: 0,
+        opacity: 0,
+        flags: 0,
+        dx: 0,
+        dy: 0,
+        mode: 0,
+        owner: 0,
+    }
+}
+
+// The numbers of the table from a place on, as a row.
+fn row_in(table: &[u32], at: usize) -> Row
+    requires { ⌜ at + rowSize ≤ length (now table) ⌝ }
+    ensures { λ r. ⌜ r ≡ rowIn (now (table .entry)) at ⌝ }
+{
+    Row {
+        kind: table[at],
+        width: table[at + 1],
+        height: table[at + 2],
+        depth: table[at + 3],
+        form: table[at + 4],
+        name: table[at + 5],
+        size: table[at + 6],
+        list: table[at + 7],
+        tiles: table[at + 8],
+        count: table[at + 9],
+        opacity: table[at + 10],
+        flags: table[at + 11],
+        dx: table[at + 12],
+        dy: table[at + 13],
+        mode: table[at + 14],
+        owner: table[at + 15],
+    }
+}
+
+// Row k of the table, or an unused row if the table has no such row.
+pub fn row_at(table: &[u32], k: u32) -> Row
+    ensures { λ r. ⌜ r ≡ rowAt (now (table .entry)) k ⌝ }
+{
+    let start = ROW_SIZE * (k as usize);
+    if start + ROW_SIZE <= table.len() {
+        return row_in(table, start);
+    }
+    unused_row()
 }
 
 // The numbers from row k on become zero.

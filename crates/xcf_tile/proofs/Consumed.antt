@@ -1,4 +1,5 @@
 -- A good tile depends only on the bytes it consumed: a window that has them first gives the same tile (`consumed-decides`).
+-- It consumes no more than its window has (`consumed-inside`).
 -- An operation that ends within the bytes on which two windows agree is the same in both (`operation-same`); then by
 -- induction over the fuel a good stream, over the streams a good tile. No stream ends before it starts (`stream-ends`).
 -- Assumes nothing.
@@ -199,6 +200,11 @@ in-inside ws n depth compression =
     by-cases (Inside ws) (eqb compression 0) _ _
     (λ _. by-cases (Inside ws) (leb (n * depth) (length ws)) _ _ (leb-true (n * depth) (length ws)) (λ _. omega arith))
     (λ _. streams-ends depth ws 0 n .1 (omega arith))
+
+pub consumed-inside : (window : List ℕ) (w h depth compression : ℕ) → Inside window (tileOf window w h depth compression)
+unfolding tileOf
+consumed-inside window w h depth compression =
+    omega (arith, in-inside (take windowLimit window) (w * h) depth compression, length-take windowLimit window)
 
 pub consumed-decides : (window other : List ℕ) (w h depth compression : ℕ) → TileSame window other (tileOf window w h depth compression) (tileOf other w h depth compression)
 unfolding tileOf

@@ -11,3 +11,4 @@ pub mod Interleaved
 pub mod Whole
 pub mod Consumed
 pub mod Pixels
+pub mod Marks

@@ -59,7 +59,8 @@ fn decode(window: &[u8], n: usize, depth: usize, compression: u32, pixels: &mut 
     }
 }
 
-fn outside(low: u32, high: u32, x: u32) -> bool
+// Whether x is below `low` or above `high`.
+pub fn outside(low: u32, high: u32, x: u32) -> bool
     ensures { λ r. ⌜ r ≡ not (within low high x) ⌝ }
 {
     if x < low {

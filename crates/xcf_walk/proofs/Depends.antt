@@ -14,9 +14,9 @@ use lib.Seq.{getD-take, getD-drop, ext-getD}
 use Rattle.xcf_walk.specs.Walk.{Walk, done, refuse, pass, ask, move, refused, part, run, PassedOver}
 
 -- two files agree on a part
-part-same : (f g : List ℕ) (at n : ℕ) → length f ≡ length g → at + n ≤ length f
+pub part-same : (f g : List ℕ) (at n : ℕ) → length f ≡ length g
     → ((i : ℕ) → at ≤ i → i < at + n → getD f i 0 ≡ getD g i 0) → part f at n ≡ part g at n
-part-same f g at n e fits agree =
+part-same f g at n e agree =
     ext-getD 0 _ _ (simp (length-take, length-drop, e)) (λ i h.
     let lt : i < n = omega (arith, length-take n (drop at f), h) in
     rw (getD-take, getD-drop) (rw (getD-take, getD-drop) (agree (at + i) (omega arith) (omega arith))))
@@ -34,7 +34,7 @@ outcome-depends {A = A} (pass n h) f g at e agree =
         → cond t (run (h (part f at n)) f (at + n)) (refused 1 at) ≡ cond (leb (at + n) (length g)) (run (h (part g at n)) g (at + n)) (refused 1 at)
     by-room true e1 go =
         let fits = leb-true _ _ e1 in
-        rw (← e, e1) (go fits (sym (part-same f g at n e fits (λ i lo hi. agree i (fits, inl (lo, hi))))))
+        rw (← e, e1) (go fits (sym (part-same f g at n e (λ i lo hi. agree i (fits, inl (lo, hi))))))
     by-room false e1 go = rw (← e, e1)
 outcome-depends (ask h) f g at e agree = rw (← e) (outcome-depends (h at (length f)) f g at e agree)
 outcome-depends (move p w) f g at e agree = outcome-depends w f g p e agree

@@ -10,3 +10,5 @@ pub mod Loops
 pub mod Refusals
 pub mod RisingLoop
 pub mod Risen
+pub mod Ensures
+pub mod Passes

@@ -3,7 +3,7 @@
 use Prim.Native.Nat.{ℕ, zero, suc, _+_, _*_, _≤_, _<_}
 use mathlib.Core.Path.{_≡_, refl}
 use mathlib.Core.List.{List}
-use mathlib.Core.Bool.{Bool, true, false, cond, _&&_, false≢true}
+use mathlib.Core.Bool.{Bool, true, false, cond, and-eq-true-iff}
 use native.Mathlib.Nat.{add-zero}
 use native.Mathlib.Omega.{arith}
 use borrow.Author.Tests.{leb-true}
@@ -20,16 +20,12 @@ pub record Risen (f : List ℕ) (at n : ℕ) (r : Rising) : Type 0 where
 none-risen : (f : List ℕ) (at n before : ℕ) → (0 < n → rises f at before ≡ false) → Risen f at n (record { count = 0; last = before })
 none-risen f at n before h = record { few = omega arith; within = λ z. absurd (omega arith); stops = λ z. rw add-zero (h z) }
 
-both-first : (a b : Bool) → (a && b) ≡ true → a ≡ true
-both-first true b e = refl
-both-first false b e = absurd (false≢true e)
-
 one-risen : (f : List ℕ) (at n before : ℕ) (r : Rising) → rises f at before ≡ true → Risen f (at + 4) n r → Risen f at (suc n) (record { count = r .count + 1; last = r .last })
 one-risen f at n before r e h =
     let same : at + 4 + 4 * r .count ≡ at + 4 * (r .count + 1) = omega arith in
     record {
       few = omega (arith, h .few);
-      within = λ _. go (r .count) (h .within) (leb-true _ _ (both-first (leb (at + 4) (length f)) _ e));
+      within = λ _. go (r .count) (h .within) (leb-true _ _ (and-eq-true-iff (leb (at + 4) (length f)) _ .0 e .0));
       stops = λ z. rw same at (h .stops (omega (arith, z)));
     }
   where

@@ -39,14 +39,18 @@ module _ {A : Type 0} {c d : Cursor} {w : Walk A} {f : List ℕ} {a : A} (l : Le
 pub moves-on : {A : Type 0} {c d : Cursor} {w : Walk A} {f : List ℕ} {a : A} → Advances w → Leads c w f d a → d .number ≡ 0 → (c .at < d .at) × (d .at ≤ length f)
 moves-on {c = c} {d = d} {f = f} {a = a} v l h = v .passes f (c .at) a (d .at) (live-run l h)
 
--- a word
-pub got-word : (f : List ℕ) (at : ℕ) {v q : ℕ} → got v q ≡ run word f at → (q ≡ at + 4) × (at + 4 ≤ length f) × (v ≡ bigEndian 0 (part f at 4))
-unfolding word number
-got-word f at e =
-    let p = parted (bytes 4) _ f at e in
-    let b = got-bytes f at 4 (p .first) in
+-- a number of so many bytes, and a word
+pub got-number : (size : ℕ) (f : List ℕ) (at : ℕ) {v q : ℕ} → got v q ≡ run (number size) f at → (q ≡ at + size) × (at + size ≤ length f) × (v ≡ bigEndian 0 (part f at size))
+unfolding number
+got-number size f at e =
+    let p = parted (bytes size) _ f at e in
+    let b = got-bytes f at size (p .first) in
     let d = got-done f (p .place) (p .rest) in
     (d .0 ∙ b .0, b .1, d .1 ∙ ap (bigEndian 0) (b .2))
+
+pub got-word : (f : List ℕ) (at : ℕ) {v q : ℕ} → got v q ≡ run word f at → (q ≡ at + 4) × (at + 4 ≤ length f) × (v ≡ bigEndian 0 (part f at 4))
+unfolding word
+got-word = got-number 4
 
 pub word-within : {c d : Cursor} {f : List ℕ} {v : ℕ} → Leads c word f d v → d .number ≡ 0
     → (d .at ≡ c .at + 4) × (d .at ≤ length f) × (v ≡ bigEndian 0 (part f (c .at) 4))

@@ -2,31 +2,23 @@
 //! given as the only argument.
 
 use std::path::Path;
-use std::{env, fs, io, process};
+use std::{fs, io};
 
-use xcf_compare::vectors::{self, Vectors};
+use xcf_compare::{folder, vectors};
 
 fn main() {
-    let arguments: Vec<String> = env::args().skip(1).collect();
-    let [folder] = arguments.as_slice() else {
-        eprintln!("usage: tile_vectors FOLDER");
-        process::exit(2);
-    };
+    folder::fill("tile_vectors", write);
+}
+
+fn write(folder: &Path) -> io::Result<String> {
     let vectors = vectors::build();
-    if let Err(error) = write(Path::new(folder), &vectors) {
-        eprintln!("{folder}: {error}");
-        process::exit(1);
-    }
-    println!(
+    fs::create_dir_all(folder)?;
+    fs::write(folder.join("stdin"), &vectors.input)?;
+    fs::write(folder.join("stdout"), &vectors.output)?;
+    Ok(format!(
         "{} records, {} bytes in, {} bytes out",
         vectors.records,
         vectors.input.len(),
         vectors.output.len()
-    );
-}
-
-fn write(folder: &Path, vectors: &Vectors) -> io::Result<()> {
-    fs::create_dir_all(folder)?;
-    fs::write(folder.join("stdin"), &vectors.input)?;
-    fs::write(folder.join("stdout"), &vectors.output)
+    ))
 }

@@ -1,12 +1,13 @@
 //! Random files that a reader accepts, with the answer and the rows that are
 //! known from how each was made.
 
-use super::Known;
 use super::block::{Block, Field, FieldKind, Layout};
-use super::drawable::{Drawable, tile_count};
+use super::drawable::{Drawable, tile_count, tile_shape};
 use super::property::{Owner, Property, last, push_list, random_list};
+use super::{DEPTHS, Known};
 use crate::answer::ReadAnswer;
 use crate::cases::Shape;
+use crate::cases::drawable::random_window;
 use crate::random::Random;
 
 // These are not shared with the reference: a mistake there must not be one in
@@ -25,6 +26,15 @@ pub struct BuiltFile {
     pub known: Known,
 }
 
+/// What the tiles of a file hold.
+#[derive(Clone, Copy, PartialEq, Eq)]
+enum Content {
+    /// A few bytes each.
+    Short,
+    /// What decodes to the tile, or nearly does.
+    Windows,
+}
+
 /// A hierarchy that drawables of the same shape may share.
 struct Hierarchy {
     shape: Shape,
@@ -34,6 +44,7 @@ struct Hierarchy {
 
 /// A file while it is put together.
 struct Builder {
+    content: Content,
     /// The image comes first.
     blocks: Vec<Block>,
     drawables: Vec<Drawable>,
@@ -48,8 +59,18 @@ struct Builder {
     channels: Vec<usize>,
 }
 
+/// A file whose tiles are too short to decode, but for the smallest.
 pub fn random_file(random: &mut Random) -> BuiltFile {
-    let mut builder = Builder::new(random);
+    build(random, Content::Short)
+}
+
+/// A file many of whose tiles decode, mostly run-length encoded.
+pub fn decodable_file(random: &mut Random) -> BuiltFile {
+    build(random, Content::Windows)
+}
+
+fn build(random: &mut Random, content: Content) -> BuiltFile {
+    let mut builder = Builder::new(random, content);
     for _ in 0..random.pick(&[0, 1, 1, 2, 3]) {
         let layer = builder.add_layer(random);
         builder.layers.push(layer);
@@ -87,7 +108,7 @@ fn random_sides(random: &mut Random) -> (u32, u32) {
 }
 
 impl Builder {
-    fn new(random: &mut Random) -> Self {
+    fn new(random: &mut Random, content: Content) -> Self {
         let (width, height) = random_sides(random);
         let version = random.below(4) as u32;
         let base = random.below(if version == 0 { 2 } else { 3 }) as u32;
@@ -96,7 +117,12 @@ impl Builder {
             let place = random.below(properties.len() + 1);
             properties.insert(place, Property::colour_map(random));
         }
+        if content == Content::Windows && !random.one_in(4) {
+            let place = random.below(properties.len() + 1);
+            properties.insert(place, Property::encoded());
+        }
         Builder {
+            content,
             blocks: vec![Block::default()],
             drawables: Vec::new(),
             hierarchies: Vec::new(),
@@ -129,7 +155,7 @@ impl Builder {
         block.word(FieldKind::LayerSide, width);
         block.word(FieldKind::LayerSide, height);
         block.word(FieldKind::LayerType, layer_type);
-        let shape = Shape::new(width, height, [3, 4, 1, 2, 1, 2][layer_type as usize]);
+        let shape = Shape::new(width, height, DEPTHS[layer_type as usize]);
         let layer = self.finish_drawable(random, block, shape, Owner::Layer);
         let block = &mut self.blocks[self.drawables[layer].block];
         match mask {
@@ -228,14 +254,15 @@ impl Builder {
         let mut block = Block::default();
         block.word(FieldKind::LevelSide, shape.width);
         block.word(FieldKind::LevelSide, shape.height);
-        self.push_tile_pointers(random, &mut block, tile_count(shape));
+        self.push_tile_pointers(random, &mut block, shape);
         block.word(FieldKind::ClosingWord, 0);
         self.add_block(block)
     }
 
     /// Appends tile pointers to a level. They lead into a new block of tiles,
     /// or anywhere.
-    fn push_tile_pointers(&mut self, random: &mut Random, level: &mut Block, count: usize) {
+    fn push_tile_pointers(&mut self, random: &mut Random, level: &mut Block, shape: Shape) {
+        let count = tile_count(shape);
         let is_free = random.one_in(3);
         if is_free {
             level.free_tiles = Some((level.bytes.len(), count));
@@ -250,13 +277,28 @@ impl Builder {
                 level.word(kind, 0);
             } else {
                 level.pointer(kind, self.blocks.len(), tiles.bytes.len());
-                let length = random.between(1, 5);
-                tiles.bytes.extend(random.bytes(length));
+                let tile = self.tile(random, tile_shape(shape, i));
+                tiles.bytes.extend(tile);
             }
         }
         if !is_free {
             self.add_block(tiles);
         }
+    }
+
+    /// The bytes of a tile, at least one.
+    fn tile(&self, random: &mut Random, shape: Shape) -> Vec<u8> {
+        match self.content {
+            Content::Short => {
+                let length = random.between(1, 5);
+                random.bytes(length)
+            }
+            Content::Windows => random_window(random, shape, self.compression()),
+        }
+    }
+
+    fn compression(&self) -> u32 {
+        last(&self.properties, 17).map_or(0, Property::number)
     }
 
     /// Perhaps lets more of the image's pointers lead to the drawables, up to
@@ -327,7 +369,7 @@ impl Builder {
             height: self.height.into(),
             base: self.base.into(),
             version: self.version.into(),
-            compression: last(&self.properties, 17).map_or(0, |p| p.number().into()),
+            compression: self.compression().into(),
             rows: rows.len() as u64,
         };
         Known { answer, rows }

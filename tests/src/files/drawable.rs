@@ -75,3 +75,14 @@ impl Drawable {
 pub fn tile_count(shape: Shape) -> usize {
     (shape.width.div_ceil(64) * shape.height.div_ceil(64)) as usize
 }
+
+/// The shape of a tile of a drawable of the shape.
+pub fn tile_shape(shape: Shape, tile: usize) -> Shape {
+    let across = shape.width.div_ceil(64);
+    let (column, row) = (tile as u32 % across, tile as u32 / across);
+    Shape {
+        width: (shape.width - 64 * column).min(64),
+        height: (shape.height - 64 * row).min(64),
+        ..shape
+    }
+}

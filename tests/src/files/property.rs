@@ -73,6 +73,14 @@ impl Property {
         Property { kind: 1, payload }
     }
 
+    /// The compression of run-length encoded tiles.
+    pub fn encoded() -> Self {
+        Property {
+            kind: 17,
+            payload: vec![1],
+        }
+    }
+
     fn random(random: &mut Random, owner: Owner) -> Self {
         if random.one_in(5) {
             return Property::free(random, owner);

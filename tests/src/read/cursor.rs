@@ -1,7 +1,9 @@
 //! A moving place in a file, from which a structure is read front to back.
 
+use std::ops::Range;
+
 use super::Refusal;
-use crate::answer::{BAD_SIDE, PAST_END, UNENDED_STRING};
+use crate::answer::{BAD_SIDE, PAST_END, SIDE_LIMIT, UNENDED_STRING};
 
 /// A word and the place where it stands.
 #[derive(Clone, Copy)]
@@ -32,6 +34,7 @@ pub struct Name {
 
 pub struct Cursor<'a> {
     file: &'a [u8],
+    start: usize,
     place: usize,
 }
 
@@ -39,12 +42,18 @@ impl<'a> Cursor<'a> {
     pub fn new(file: &'a [u8], place: u32) -> Self {
         Cursor {
             file,
+            start: place as usize,
             place: place as usize,
         }
     }
 
     pub fn place(&self) -> usize {
         self.place
+    }
+
+    /// The bytes passed over: all from the first place on.
+    pub fn passed(&self) -> Range<usize> {
+        self.start..self.place
     }
 
     /// The next `count` bytes.
@@ -68,7 +77,7 @@ impl<'a> Cursor<'a> {
     /// A word that is a usable side.
     pub fn side(&mut self) -> Result<Word, Refusal> {
         let word = self.word()?;
-        word.tested((1..=16_384).contains(&word.value), BAD_SIDE)
+        word.tested((1..=SIDE_LIMIT).contains(&word.value), BAD_SIDE)
     }
 
     /// A length word and so many bytes, the last of which is zero.

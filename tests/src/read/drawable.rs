@@ -1,5 +1,7 @@
 //! Layers, channels and masks, with their hierarchies and levels.
 
+use std::ops::Range;
+
 use super::Refusal;
 use super::cursor::{Cursor, Name, Word};
 use super::property::{Properties, drawable_list};
@@ -32,6 +34,16 @@ pub struct Drawable {
     hierarchy: u32,
     /// The place of a layer's mask; 0 for none.
     pub mask: u32,
+    /// The structure's own bytes.
+    pub passed: Range<usize>,
+}
+
+/// A hierarchy and its first level, both passed over.
+pub struct Tiles {
+    /// The place of the first tile pointer.
+    pub first: usize,
+    pub hierarchy: Range<usize>,
+    pub level: Range<usize>,
 }
 
 impl Drawable {
@@ -52,6 +64,7 @@ impl Drawable {
             properties: drawable_list(&mut cursor, true)?,
             hierarchy: nonzero_pointer(&mut cursor)?,
             mask: cursor.word()?.value,
+            passed: cursor.passed(),
         })
     }
 
@@ -74,23 +87,29 @@ impl Drawable {
             properties: drawable_list(&mut cursor, false)?,
             hierarchy: nonzero_pointer(&mut cursor)?,
             mask: 0,
+            passed: cursor.passed(),
         })
     }
 
-    /// Follows the hierarchy pointer; gives the place of the first tile
-    /// pointer.
-    pub fn tile_pointers(&self, file: &[u8]) -> Result<usize, Refusal> {
+    /// Follows the hierarchy pointer.
+    pub fn tiles(&self, file: &[u8]) -> Result<Tiles, Refusal> {
         let mut cursor = Cursor::new(file, self.hierarchy);
         for owners in [self.width, self.height, self.depth] {
             equal_word(&mut cursor, owners)?;
         }
         let level = nonzero_pointer(&mut cursor)?;
         while cursor.word()?.value != 0 {}
-        self.level(file, level)
+        let (first, level) = self.level(file, level)?;
+        Ok(Tiles {
+            first,
+            hierarchy: cursor.passed(),
+            level,
+        })
     }
 
-    /// Reads the level at `place`; gives the place of the first tile pointer.
-    fn level(&self, file: &[u8], place: u32) -> Result<usize, Refusal> {
+    /// Reads the level at `place`; gives the place of the first tile pointer
+    /// and the level's bytes.
+    fn level(&self, file: &[u8], place: u32) -> Result<(usize, Range<usize>), Refusal> {
         let mut cursor = Cursor::new(file, place);
         for owners in [self.width, self.height] {
             equal_word(&mut cursor, owners)?;
@@ -104,7 +123,7 @@ impl Drawable {
         }
         let closing = cursor.word()?;
         closing.tested(closing.value == 0, BAD_TILE_POINTER)?;
-        Ok(first)
+        Ok((first, cursor.passed()))
     }
 
     fn tile_count(&self) -> u32 {

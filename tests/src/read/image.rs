@@ -1,5 +1,7 @@
 //! The image structure, and the walk from it to every drawable.
 
+use std::ops::Range;
+
 use super::Refusal;
 use super::cursor::Cursor;
 use super::drawable::{Drawable, Kind};
@@ -21,6 +23,8 @@ pub struct Image {
     pub version: u32,
     pub compression: u32,
     pub rows: Vec<Row>,
+    /// The structures, in the order of the walk.
+    pub passed: Vec<Range<usize>>,
 }
 
 impl Image {
@@ -37,9 +41,11 @@ impl Image {
             version,
             compression: image_list(&mut cursor, base)?,
             rows: Vec::new(),
+            passed: Vec::new(),
         };
         let layers = pointers(&mut cursor, MOST_LAYERS)?;
         let channels = pointers(&mut cursor, MOST_CHANNELS)?;
+        image.passed.push(cursor.passed());
         for place in layers {
             image.add_layer(file, place)?;
         }
@@ -54,23 +60,33 @@ impl Image {
         let owner = self.rows.len();
         let layer = Drawable::layer(file, place, self.base)?;
         let offsets = layer.properties.offsets;
-        let first_tile = layer.tile_pointers(file)?;
-        self.rows
-            .push(layer.row(Kind::Layer, first_tile, offsets, owner));
+        self.add_row(file, &layer, Kind::Layer, offsets, owner)?;
         if layer.mask != 0 {
             let mask = Drawable::channel(file, layer.mask, [layer.width, layer.height])?;
-            let first_tile = mask.tile_pointers(file)?;
-            self.rows
-                .push(mask.row(Kind::Mask, first_tile, offsets, owner));
+            self.add_row(file, &mask, Kind::Mask, offsets, owner)?;
         }
         Ok(())
     }
 
     fn add_channel(&mut self, file: &[u8], place: u32) -> Result<(), Refusal> {
         let channel = Drawable::channel(file, place, [self.width, self.height])?;
-        let first_tile = channel.tile_pointers(file)?;
-        let row = channel.row(Kind::Channel, first_tile, [0, 0], self.rows.len());
-        self.rows.push(row);
+        self.add_row(file, &channel, Kind::Channel, [0, 0], self.rows.len())
+    }
+
+    /// Follows a drawable's hierarchy pointer and adds its row.
+    fn add_row(
+        &mut self,
+        file: &[u8],
+        drawable: &Drawable,
+        kind: Kind,
+        offsets: [u32; 2],
+        owner: usize,
+    ) -> Result<(), Refusal> {
+        let tiles = drawable.tiles(file)?;
+        self.rows
+            .push(drawable.row(kind, tiles.first, offsets, owner));
+        self.passed
+            .extend([drawable.passed.clone(), tiles.hierarchy, tiles.level]);
         Ok(())
     }
 }

@@ -2,12 +2,12 @@
 
 use xcf_compare::answer::Row;
 use xcf_compare::files::EXAMPLE;
-
-use crate::assert_accepted;
-use crate::laid::{
+use xcf_compare::files::laid::{
     END, byte_property, channel, empty_image, grey_layer, image_start, lay, layered, masked_layer,
     property, with, with_byte, words,
 };
+
+use crate::assert_accepted;
 
 /// The five numbers of the grey images.
 const GREY: [u64; 5] = [1, 1, 1, 0, 0];

@@ -2,7 +2,6 @@
 //! reference and the library with the answers written out.
 
 mod acceptances;
-mod laid;
 mod order;
 mod refusals;
 

@@ -3,11 +3,11 @@
 
 use xcf_compare::answer::{FILE_LIMIT, ReadAnswer, TABLE_LENGTH};
 use xcf_compare::files::EXAMPLE;
-
-use crate::laid::{
+use xcf_compare::files::laid::{
     END, channel, empty_image, grey_layer, image_start, layered, masked_layer, pointers_only,
     property, with, with_byte, words,
 };
+
 use crate::{READERS, assert_refused, assert_wrong_table};
 
 #[test]

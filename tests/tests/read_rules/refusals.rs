@@ -1,11 +1,11 @@
 //! Every number that the reader refuses with, at its place.
 
 use xcf_compare::files::EXAMPLE;
-
-use crate::laid::{
+use xcf_compare::files::laid::{
     byte_property, channel, empty_image, grey_layer, layered, masked_layer, pointers_only,
     property, with, with_byte, words,
 };
+
 use crate::{assert_accepted, assert_refused, assert_wrong_table};
 
 /// Where the fields of the example start, in the order of the walk, up to its

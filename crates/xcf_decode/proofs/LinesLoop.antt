@@ -1,0 +1,67 @@
+-- The loop that puts a tile's lines: `Going` holds at its head, the next line fits (`next-line`), put by the code's copy
+-- (`line-copied`) it keeps `Going` (`going-line`), and with no line left `Going` names the pixels (`going-over`). What is left to put
+-- from here on gives all that was to be put.
+-- Assumes nothing.
+use Prim.Native.Nat.{ℕ, zero, suc, _+_, _-_, _≤_, _<_}
+use mathlib.Core.Path.{_≡_, refl, sym, _∙_}
+use mathlib.Core.List.{List, _++_, append-assoc, append-nil}
+use native.Mathlib.Omega.{arith}
+use native.Mathlib.Nat.{not-suc-le-zero}
+use native.Mathlib.Numerals.{sub-one}
+use lib.ListN.{length, take, drop, length-drop}
+use lib.Seq.{paste, length-paste, drop-drop, drop-length, length-take-le, take-all, take-take}
+use Rattle.xcf_tile.proofs.Scattering.{one-less}
+use Rattle.xcf_decode.specs.Parts.{putLines, Room}
+
+pub record Going (start : List ℕ) (at stride : ℕ) (tile : List ℕ) (line n : ℕ) (pixels : List ℕ) (to from rest : ℕ) : Type 0 where
+  pub same : length pixels ≡ length start
+  pub room : Room pixels to stride tile from line rest
+  pub put : putLines pixels to stride tile from line rest ≡ putLines start at stride tile 0 line n
+
+pub going-start : {start : List ℕ} {at stride : ℕ} {tile : List ℕ} {line n : ℕ} → Room start at stride tile 0 line n → Going start at stride tile line n start at 0 n
+going-start room = record { same = refl; room = room; put = refl }
+
+put-next : (pixels : List ℕ) (to stride : ℕ) (tile : List ℕ) (from line rest : ℕ) → 0 < rest
+    → putLines (paste pixels to (drop from tile) line) (to + stride) stride tile (from + line) line (rest - 1) ≡ putLines pixels to stride tile from line rest
+unfolding putLines
+put-next pixels to stride tile from line zero h = absurd (not-suc-le-zero h)
+put-next pixels to stride tile from line (suc rest) h = rw sub-one
+
+-- a part of the pixels up to their end, with a line of the tile copied to its start, put back in its place
+pub line-copied : (pixels : List ℕ) (to : ℕ) (tile : List ℕ) (from line : ℕ) → from + line ≤ length tile → to + line ≤ length pixels
+    → (let source = take (from + line - from) (drop from tile) in
+    let part = take (length pixels - to) (drop to pixels) in
+    take to pixels ++ ((take (length source) source ++ drop (length source) part) ++ drop (length pixels - to) (drop to pixels)))
+    ≡ paste pixels to (drop from tile) line
+line-copied pixels to tile from line inside fits =
+    let taken : from + line - from ≡ line = omega arith in
+    let size : length (take line (drop from tile)) ≡ line = length-take-le line (drop from tile) (simp length-drop (omega arith)) in
+    let whole : take (length pixels - to) (drop to pixels) ≡ drop to pixels = take-all (length pixels - to) (drop to pixels) (simp length-drop (omega arith)) in
+    let end : to + (length pixels - to) ≡ length pixels = omega arith in
+    rw (taken, size, whole, take-take line line _ (omega arith), drop-drop, drop-drop, end, drop-length, append-nil)
+    (sym (append-assoc (take to pixels) _ _))
+
+module _ {start : List ℕ} {at stride : ℕ} {tile : List ℕ} {line n : ℕ} {pixels : List ℕ} {to from rest : ℕ} (g : Going start at stride tile line n pixels to from rest) where
+  -- the next line lies in the tile and in the pixels
+  pub next-line : 0 < rest → (from + line ≤ length tile) × (to + line ≤ length pixels)
+  next-line some = (omega (arith, g .room .source, one-less line rest some), omega (arith, g .room .target, one-less stride rest some))
+
+  pub going-line : 0 < rest → Going start at stride tile line n (paste pixels to (drop from tile) line) (to + stride) (from + line) (rest - 1)
+  going-line some =
+      let next = next-line some in
+      let size : length (paste pixels to (drop from tile) line) ≡ length pixels =
+      length-paste pixels to (drop from tile) line (next .1) (simp length-drop (omega (arith, next .0))) in
+      record {
+        same = size ∙ g .same;
+        room = record {
+          source = omega (arith, g .room .source, one-less line rest some);
+          target = omega (arith, g .room .target, one-less stride rest some, size);
+          apart = g .room .apart;
+          small = omega (arith, g .room .small, size);
+        };
+        put = put-next pixels to stride tile from line rest some ∙ g .put;
+      }
+
+  pub going-over : rest ≡ 0 → pixels ≡ putLines start at stride tile 0 line n
+  unfolding putLines
+  going-over z = rw z at (g .put)

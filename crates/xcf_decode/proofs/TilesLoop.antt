@@ -1,0 +1,129 @@
+-- The loops over a row's tiles. `Counting` holds at the head of both: a good tile and a marked one keep it (`counting-good`,
+-- `counting-bad`), it says that the marks are few (`counting-few`), and with no tile left it names the count (`counting-over`).
+-- `Going` holds at the head of the loop that fills the buffers: its next tile can be placed (`tile-placeable`) and keeps it
+-- (`going-next`), and with no tile left it names the row's decoding (`going-counted`, `going-shown`, `going-marked`).
+-- Assumes nothing.
+use Prim.Native.Nat.{ℕ, _+_, _*_, _≤_, _<_}
+use mathlib.Core.Path.{_≡_, refl, sym, _∙_, ap, subst}
+use mathlib.Core.List.{List}
+use native.Mathlib.Omega.{arith}
+use native.Mathlib.Nat.{zero-add}
+use native.Mathlib.Numerals.{add-one}
+use lib.ListN.{length, take, set, length-set}
+use lib.Seq.{take-all, take-suc-set}
+use Rattle.xcf_table.specs.declared.Row.{Row}
+use Rattle.xcf_tile.specs.Grid.{tileWidth, tileHeight}
+use Rattle.xcf_tile.proofs.Pixels.{pixels-length}
+use Rattle.xcf_read.specs.Hierarchy.{pointerSize}
+use Rattle.xcf_read.proofs.Pointers.{few-tiles}
+use Rattle.xcf_decode.specs.Window.{tile}
+use Rattle.xcf_decode.specs.Pixels.{tabulate}
+use Rattle.xcf_decode.specs.Answer.{nonzero, marksOf, rowDecoding}
+use Rattle.xcf_decode.specs.Parts.{Ready, Placeable, Scratched, frameOf, putFrame}
+use Rattle.xcf_decode.proofs.Grid.{frame-across, frame-down}
+use Rattle.xcf_decode.proofs.Tabulated.{tabulate-more}
+use Rattle.xcf_decode.proofs.OneTile.{pixels-small}
+use Rattle.xcf_decode.proofs.Marked.{nonzero-next-good, nonzero-next-bad, nonzero-below}
+use Rattle.xcf_decode.proofs.Shown.{Shown, shown-none, shown-next, shown-all}
+
+module _ (f : List ℕ) (r : Row) (compression : ℕ) where
+  abbrev markOf : ℕ → ℕ
+  markOf t = tile pointerSize f r compression t .mark
+
+  abbrev picture : ℕ → List ℕ
+  picture t = tile pointerSize f r compression t .pixels
+
+  picture-length : (t : ℕ) → length (picture t) ≡ tileWidth (r .width) t * tileHeight (r .width) (r .height) t * r .depth
+  unfolding tile
+  picture-length t = pixels-length _ _ _ _ compression
+
+-- the marks of the first t tiles are counted
+pub record Counting (f : List ℕ) (r : Row) (compression : ℕ) (scratch : List ℕ) (t marked : ℕ) : Type 0 where
+  pub inside : t ≤ r .count
+  pub count : marked ≡ nonzero (tabulate t 0 (markOf f r compression))
+  pub size : length scratch ≡ 16384
+
+-- the pixels of the first t tiles are shown, and their marks set
+pub record Going (f : List ℕ) (r : Row) (compression : ℕ) (pixels marks scratch : List ℕ) (t marked : ℕ) : Type 0 where
+  pub counting : Counting f r compression scratch t marked
+  pub shown : Shown (picture f r compression) r pixels t
+  pub marksSize : length marks ≡ r .count
+  pub marksSet : take t marks ≡ tabulate t 0 (markOf f r compression)
+
+pub counting-start : {f : List ℕ} {r : Row} {compression : ℕ} {scratch : List ℕ} → length scratch ≡ 16384 → Counting f r compression scratch 0 0
+unfolding tabulate nonzero
+counting-start size = record { inside = omega arith; count = refl; size = size }
+
+pub going-start : {f : List ℕ} {r : Row} {compression : ℕ} {pixels marks scratch : List ℕ} → length pixels ≡ r .width * r .height * r .depth
+    → length marks ≡ r .count → length scratch ≡ 16384 → Going f r compression pixels marks scratch 0 0
+unfolding tabulate
+going-start pixels marks scratch = record { counting = counting-start scratch; shown = shown-none pixels; marksSize = marks; marksSet = refl }
+
+module _ {f : List ℕ} {r : Row} {compression : ℕ} {scratch : List ℕ} {t marked : ℕ} (g : Counting f r compression scratch t marked) where
+  -- the next tile's mark counts where it is not zero
+  module _ (less : t < r .count) {m : ℕ} {new : List ℕ} (one : Scratched (tile pointerSize f r compression t) m scratch new) where
+    pub counting-good : m ≡ 0 → Counting f r compression new (t + 1) marked
+    counting-good good = record {
+      inside = omega (arith, less);
+      count = g .count ∙ sym (nonzero-next-good t (markOf f r compression) (sym (one .mark) ∙ good));
+      size = one .size ∙ g .size;
+    }
+
+    pub counting-bad : (m ≡ 0 → ⊥) → Counting f r compression new (t + 1) (marked + 1)
+    counting-bad bad = record {
+      inside = omega (arith, less);
+      count = ap (λ n. n + 1) (g .count) ∙ sym (nonzero-next-bad t (markOf f r compression) (λ z. bad (one .mark ∙ z)));
+      size = one .size ∙ g .size;
+    }
+
+  pub counting-over : r .count ≤ t → marked ≡ nonzero (marksOf pointerSize f r compression)
+  unfolding marksOf
+  counting-over over =
+      let all : t ≡ r .count = omega (arith, over, g .inside) in
+      g .count ∙ ap (λ n. nonzero (tabulate n 0 (markOf f r compression))) all
+
+module _ {f : List ℕ} {r : Row} {compression : ℕ} (ready : Ready f r compression) where
+  few : r .count ≤ 65536
+  few = rw (ready .count) (few-tiles (r .width) (r .height) (ready .wide .1) (ready .high .1))
+
+  pub counting-few : {scratch : List ℕ} {t marked : ℕ} → Counting f r compression scratch t marked → (marked ≤ t) × (t ≤ 65536)
+  counting-few {t = t} g = (rw (g .count) (nonzero-below t (markOf f r compression)), omega (arith, g .inside, few))
+
+  module _ {pixels marks scratch : List ℕ} {t marked : ℕ} (g : Going f r compression pixels marks scratch t marked) where
+    pub tile-placeable : t < r .count → (n : ℕ) → n ≡ 16384 → Placeable r (frameOf r t) n (length pixels)
+    tile-placeable less n size = record {
+      across = frame-across (r .width) t (ready .wide .0);
+      down = frame-down (r .width) (r .height) t (ready .wide .0) (omega (arith, less, ready .count));
+      tile = omega (arith, size, pixels-small ready less refl .1);
+      pixels = g .shown .size;
+      wide = ready .wide .1;
+      high = ready .high .1;
+      deep = ready .deep .1;
+    }
+
+    pub going-next : t < r .count → {m : ℕ} {new : List ℕ} → Scratched (tile pointerSize f r compression t) m scratch new → {count : ℕ}
+        → Counting f r compression new (t + 1) count
+        → Going f r compression (putFrame pixels (r .width) (r .depth) (frameOf r t) new) (set marks t m) new (t + 1) count
+    going-next less {m} {new} one next = record {
+      counting = next;
+      shown = shown-next new (g .shown) (ready .wide .0) (omega (arith, less, ready .count)) (picture-length f r compression t) (one .pixels);
+      marksSize = length-set marks t m ∙ g .marksSize;
+      marksSet =
+          rw (add-one, tabulate-more t 0 (markOf f r compression), zero-add, take-suc-set marks t m (omega (arith, less, g .marksSize)), g .marksSet, one .mark);
+    }
+
+    module _ (over : r .count ≤ t) where
+      all : t ≡ r .count
+      all = omega (arith, over, g .counting .inside)
+
+      pub going-counted : marked ≡ rowDecoding pointerSize f r compression .answer .marked
+      unfolding rowDecoding
+      going-counted = counting-over (g .counting) over
+
+      pub going-shown : pixels ≡ rowDecoding pointerSize f r compression .pixels
+      unfolding rowDecoding
+      going-shown = shown-all (subst (Shown (picture f r compression) r pixels) (all ∙ ready .count) (g .shown)) (ready .wide .0) (ready .deep .0)
+
+      pub going-marked : marks ≡ rowDecoding pointerSize f r compression .marks
+      unfolding rowDecoding marksOf
+      going-marked = sym (take-all t marks (omega (arith, all, g .marksSize))) ∙ g .marksSet ∙ ap (λ n. tabulate n 0 (markOf f r compression)) all

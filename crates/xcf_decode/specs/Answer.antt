@@ -1,0 +1,96 @@
+-- What the decoder of a drawable answers, and what it leaves in the buffers lent for the pixels and the marks.
+use Prim.Native.Nat.{ℕ, _+_, _*_}
+use mathlib.Core.Path.{_≡_}
+use mathlib.Core.List.{List, [], _∷_}
+use mathlib.Core.Bool.{Bool, true, cond, _&&_}
+use lib.ListN.{length}
+use lib.Dec.{leb, eqb}
+use Rattle.xcf_walk.specs.Walk.{Outcome, got, refused, run}
+use Rattle.xcf_table.specs.declared.Row.{Row}
+use Rattle.xcf_table.specs.Table.{tableSize, rowAt}
+use Rattle.xcf_tile.specs.Grid.{tileCount}
+use Rattle.xcf_tile.specs.Answer.{within}
+use Rattle.xcf_read.specs.Hierarchy.{pointerSize, tiles}
+use Rattle.xcf_read.specs.Answer.{fileLimit}
+use Rattle.xcf_decode.specs.declared.DecodeAnswer.{DecodeAnswer}
+use Rattle.xcf_decode.specs.Window.{tile}
+use Rattle.xcf_decode.specs.Pixels.{tabulate, pixelsOf}
+
+-- kind 1 to 3, sides and depth in range
+unfoldable pub inRange : Row → Bool
+inRange r = within 1 3 (r .kind) && (within 1 16384 (r .width) && (within 1 16384 (r .height) && within 1 4 (r .depth)))
+
+-- the count fits the sides; all pointers and the closing word lie in the file
+unfoldable pub inFile : ℕ → ℕ → Row → Bool
+inFile size fileLength r = eqb (r .count) (tileCount (r .width) (r .height)) && leb (r .tiles + size * (r .count + 1)) fileLength
+
+unfoldable pub usableRow : ℕ → ℕ → Row → ℕ → Bool
+usableRow size fileLength r compression = inRange r && (inFile size fileLength r && leb compression 1)
+
+-- whether pixels and marks of these lengths fit a row
+unfoldable pub fits : Row → ℕ → ℕ → Bool
+fits r pixels marks = eqb pixels (r .width * r .height * r .depth) && eqb marks (r .count)
+
+abbrev pub refusal : ℕ → ℕ → DecodeAnswer
+refusal n p = record { number = n; place = p; marked = 0 }
+
+-- the walk over the tile pointers is refused at the lowest bad word
+abbrev pub pointersRefusal : Outcome (Unit {0}) → DecodeAnswer
+pointersRefusal (got u q) = refusal 0 0
+pointersRefusal (refused n p) = refusal n p
+
+-- 11 for the table, 15, 14, at 0 each; number 0 where the row is not refused
+unfoldable pub rowRefusal : ℕ → ℕ → ℕ → Row → ℕ → ℕ
+rowRefusal size fileLength tableLength r compression =
+    cond (eqb tableLength tableSize) (cond (leb fileLength fileLimit) (cond (usableRow size fileLength r compression) 0 14) 15) 11
+
+-- then 11 where the lent pixels or marks do not fit, then 13
+unfoldable pub drawableRefusal : ℕ → List ℕ → ℕ → Row → ℕ → Bool → DecodeAnswer
+drawableRefusal size file tableLength r compression fit =
+    let n = rowRefusal size (length file) tableLength r compression in
+    cond (eqb n 0) (cond fit (pointersRefusal (run (tiles size (r .count) 0) file (r .tiles))) (refusal 11 0)) (refusal n 0)
+
+-- the marks of a row's tiles, and how many of some marks are not zero
+unfoldable pub marksOf : ℕ → List ℕ → Row → ℕ → List ℕ
+marksOf size file r compression = tabulate (r .count) 0 (λ t. tile size file r compression t .mark)
+
+unfoldable pub nonzero : List ℕ → ℕ
+nonzero [] = 0
+nonzero (m ∷ ms) = cond (eqb m 0) (nonzero ms) (nonzero ms + 1)
+
+-- an answer that says how many marks are not zero
+abbrev pub counted : List ℕ → DecodeAnswer
+counted marks = record { number = 0; place = 0; marked = nonzero marks }
+
+-- an answer, and the content of both buffers beside it
+pub record Decoding : Type 0 where
+  pub answer : DecodeAnswer
+  pub pixels : List ℕ
+  pub marks : List ℕ
+
+unfoldable pub rowDecoding : ℕ → List ℕ → Row → ℕ → Decoding
+rowDecoding size file r compression = record {
+  answer = counted (marksOf size file r compression);
+  pixels = pixelsOf (λ t. tile size file r compression t .pixels) (r .width) (r .height) (r .depth);
+  marks = marksOf size file r compression;
+}
+
+-- a refusal leaves pixels and marks as lent
+unfoldable pub decoding : List ℕ → List ℕ → ℕ → ℕ → List ℕ → List ℕ → Decoding
+decoding file table k compression pixels marks =
+    let r = rowAt table k in
+    let answer = drawableRefusal pointerSize file (length table) r compression (fits r (length pixels) (length marks)) in
+    cond (eqb (answer .number) 0) (rowDecoding pointerSize file r compression) (record { answer = answer; pixels = pixels; marks = marks })
+
+-- the same answer with nothing lent for pixels and marks
+unfoldable pub counting : List ℕ → List ℕ → ℕ → ℕ → DecodeAnswer
+counting file table k compression =
+    let r = rowAt table k in
+    let answer = drawableRefusal pointerSize file (length table) r compression true in
+    cond (eqb (answer .number) 0) (counted (marksOf pointerSize file r compression)) answer
+
+-- the decoder's promise: its answer r, and the new content of the buffers
+pub record Decodes (file table : List ℕ) (k compression : ℕ) (oldPixels oldMarks : List ℕ) (r : DecodeAnswer) (newPixels newMarks : List ℕ) : Type 0 where
+  pub answer : r ≡ decoding file table k compression oldPixels oldMarks .answer
+  pub pixels : newPixels ≡ decoding file table k compression oldPixels oldMarks .pixels
+  pub marks : newMarks ≡ decoding file table k compression oldPixels oldMarks .marks

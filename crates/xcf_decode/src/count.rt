@@ -1,0 +1,34 @@
+// The marked tiles of a drawable, counted with the pixels of one tile at a time.
+ghost use mathlib.Core.Path.{_≡_};
+ghost use lib.ListN.{length};
+ghost use Rattle.xcf_read.specs.Hierarchy.{pointerSize};
+ghost use Rattle.xcf_decode.specs.Answer.{nonzero, marksOf};
+ghost use Rattle.xcf_decode.specs.Parts.{Ready};
+use crate::tile::TILE_SIZE;
+use crate::tile::decode_one;
+use crate::tile::frame_of;
+use xcf_table::Row;
+
+fn count_tiles(file: &[u8], row: Row, compression: u32, scratch: &mut [u8]) -> u64
+    requires { ⌜ Ready (now file) row compression × (length (now scratch) ≡ 16384) ⌝ }
+    ensures { λ r. ⌜ r ≡ nonzero (marksOf pointerSize (now (file .entry)) row compression) ⌝ }
+{
+    let mut t: u32 = 0;
+    let mut marked: u64 = 0;
+    while t < row.count {
+        let mark = decode_one(file, row, compression, t, frame_of(row, t), scratch);
+        if mark != 0 {
+            marked += 1;
+        }
+        t += 1;
+    }
+    marked
+}
+
+pub(crate) fn count_row(file: &[u8], row: Row, compression: u32) -> u64
+    requires { ⌜ Ready (now file) row compression ⌝ }
+    ensures { λ r. ⌜ r ≡ nonzero (marksOf pointerSize (now (file .entry)) row compression) ⌝ }
+{
+    let mut scratch = [0u8; TILE_SIZE];
+    count_tiles(file, row, compression, &mut scratch)
+}

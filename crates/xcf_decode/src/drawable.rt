@@ -1,0 +1,59 @@
+// The tiles of a drawable, decoded into its pixels and marks.
+ghost use mathlib.Core.Path.{_≡_};
+ghost use Prim.Native.Nat.{_*_};
+ghost use lib.ListN.{length};
+ghost use Rattle.xcf_read.specs.Hierarchy.{pointerSize};
+ghost use Rattle.xcf_decode.specs.Answer.{rowDecoding};
+ghost use Rattle.xcf_decode.specs.Parts.{Ready};
+use crate::place::put_tile;
+use crate::tile::TILE_SIZE;
+use crate::tile::decode_one;
+use crate::tile::frame_of;
+use xcf_table::Row;
+
+// Every tile of the row: its pixels and its mark; and how many marks are not zero.
+fn decode_tiles(
+    file: &[u8],
+    row: Row,
+    compression: u32,
+    pixels: &mut [u8],
+    marks: &mut [u8],
+    scratch: &mut [u8],
+) -> u64
+    requires { ⌜ Ready (now file) row compression ⌝ }
+    requires { ⌜ (length (now pixels) ≡ row .width * row .height * row .depth) × (length (now marks) ≡ row .count) × (length (now scratch) ≡ 16384) ⌝ }
+    ensures { λ r. ⌜ r ≡ rowDecoding pointerSize (now (file .entry)) row compression .answer .marked ⌝ }
+    ensures { λ _. ⌜ now (pixels .exit) ≡ rowDecoding pointerSize (now (file .entry)) row compression .pixels ⌝ }
+    ensures { λ _. ⌜ now (marks .exit) ≡ rowDecoding pointerSize (now (file .entry)) row compression .marks ⌝ }
+{
+    let mut t: u32 = 0;
+    let mut marked: u64 = 0;
+    while t < row.count {
+        let spot = frame_of(row, t);
+        let mark = decode_one(file, row, compression, t, spot, scratch);
+        put_tile(row, spot, scratch, pixels);
+        marks[t as usize] = mark;
+        if mark != 0 {
+            marked += 1;
+        }
+        t += 1;
+    }
+    marked
+}
+
+pub(crate) fn decode_row(
+    file: &[u8],
+    row: Row,
+    compression: u32,
+    pixels: &mut [u8],
+    marks: &mut [u8],
+) -> u64
+    requires { ⌜ Ready (now file) row compression ⌝ }
+    requires { ⌜ (length (now pixels) ≡ row .width * row .height * row .depth) × (length (now marks) ≡ row .count) ⌝ }
+    ensures { λ r. ⌜ r ≡ rowDecoding pointerSize (now (file .entry)) row compression .answer .marked ⌝ }
+    ensures { λ _. ⌜ now (pixels .exit) ≡ rowDecoding pointerSize (now (file .entry)) row compression .pixels ⌝ }
+    ensures { λ _. ⌜ now (marks .exit) ≡ rowDecoding pointerSize (now (file .entry)) row compression .marks ⌝ }
+{
+    let mut scratch = [0u8; TILE_SIZE];
+    decode_tiles(file, row, compression, pixels, marks, &mut scratch)
+}

@@ -1,0 +1,85 @@
+// One tile of a drawable: where it stands, its window, its pixels and its mark.
+ghost use mathlib.Core.Path.{_≡_};
+ghost use Prim.Native.Nat.{_+_, _*_, _≤_, _<_};
+ghost use lib.ListN.{length};
+ghost use Rattle.xcf_read.specs.Hierarchy.{pointerSize};
+ghost use Rattle.xcf_decode.specs.Window.{pointerAt, windowEnd, tile};
+ghost use Rattle.xcf_decode.specs.Parts.{Ready, frameOf, Scratched};
+use xcf_table::Row;
+use xcf_tile::decode_tile;
+use xcf_tile::grid::side_of;
+use xcf_tile::grid::tiles_along;
+use xcf_walk::rising::word_in;
+
+// The most bytes of a tile.
+pub(crate) const TILE_SIZE: usize = 16384;
+
+// A tile's column and line among the tiles, and its sides.
+pub struct Frame {
+    pub column: u32,
+    pub line: u32,
+    pub width: u32,
+    pub height: u32,
+}
+
+pub(crate) fn frame_of(row: Row, t: u32) -> Frame
+    requires { ⌜ (1 ≤ row .width) × (row .width ≤ 16384) ⌝ }
+    ensures { λ r. ⌜ r ≡ frameOf row t ⌝ }
+{
+    let across = tiles_along(row.width) as u32;
+    let column = t % across;
+    let line = t / across;
+    Frame {
+        column,
+        line,
+        width: side_of(row.width, column),
+        height: side_of(row.height, line),
+    }
+}
+
+// The pointer of tile t.
+fn pointer_at(file: &[u8], row: Row, t: u32) -> usize
+    requires { ⌜ row .tiles + 4 * (t + 1) ≤ length (now file) ⌝ }
+    ensures { λ r. ⌜ r ≡ pointerAt pointerSize (now (file .entry)) row t ⌝ }
+{
+    word_in(file, row.tiles as usize + 4 * (t as usize)) as usize
+}
+
+// Where the window of tile t ends, before it is cut.
+fn window_end(file: &[u8], row: Row, t: u32) -> usize
+    requires { ⌜ (t < row .count) × (row .tiles + 4 * (row .count + 1) ≤ length (now file)) ⌝ }
+    ensures { λ r. ⌜ r ≡ windowEnd pointerSize (now (file .entry)) row t ⌝ }
+{
+    let next = t + 1;
+    if next < row.count {
+        return pointer_at(file, row, next);
+    }
+    file.len()
+}
+
+// The mark of tile t, whose pixels go to the start of the scratch.
+pub(crate) fn decode_one(
+    file: &[u8],
+    row: Row,
+    compression: u32,
+    t: u32,
+    spot: Frame,
+    scratch: &mut [u8],
+) -> u8
+    requires { ⌜ Ready (now file) row compression ⌝ }
+    requires { ⌜ (t < row .count) × (spot ≡ frameOf row t) × (length (now scratch) ≡ 16384) ⌝ }
+    ensures { λ r. ⌜ Scratched (tile pointerSize (now (file .entry)) row compression t) r (now (scratch .entry)) (now (scratch .exit)) ⌝ }
+{
+    let start = pointer_at(file, row, t);
+    let end = window_end(file, row, t);
+    let size = (spot.width * spot.height * row.depth) as usize;
+    let answer = decode_tile(
+        &file[start..end],
+        spot.width,
+        spot.height,
+        row.depth,
+        compression,
+        &mut scratch[..size],
+    );
+    answer.mark as u8
+}

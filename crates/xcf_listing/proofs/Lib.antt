@@ -1,0 +1,5 @@
+pub mod Written
+pub mod Decimal
+pub mod Spaced
+pub mod Row
+pub mod Listed

@@ -1,0 +1,50 @@
+-- The lines of a table's rows: a row's line from the table's numbers, and one row's line more behind those before it.
+-- Assumes nothing.
+use mathlib.Core.Path.{_≡_, sym, ap, _∙_}
+use mathlib.Core.List.{List, _++_, append-assoc, append-nil}
+use Prim.Native.Nat.{ℕ, zero, suc, _+_, _-_, _*_, _≤_}
+use native.Mathlib.Nat.{add-zero, zero-add}
+use native.Mathlib.Numerals.{add-one}
+use native.Mathlib.Omega.{arith}
+use borrow.Author.Tests.{le-leb}
+use lib.ListN.{length, take, drop, getD}
+use Rattle.xcf_table.specs.Table.{rowSize, rowAt}
+use Rattle.xcf_decode.specs.Answer.{counting}
+use Rattle.xcf_listing.specs.Text.{newline, decimal, spaced, spacedAll}
+use Rattle.xcf_listing.specs.Listing.{bad, kindName, rowLine, rowLines}
+use Rattle.xcf_listing.specs.Parts.{Puts}
+use Rattle.xcf_listing.proofs.Written.{puts-none, puts-few, puts-then}
+
+kind-there : (table : List ℕ) (k : ℕ) → rowSize * (k + 1) ≤ length table → rowAt table k .kind ≡ getD table (rowSize * k) 0
+unfolding rowAt
+kind-there table k within = rw (le-leb _ _ within)
+
+-- the line of a row that the table has, with its fields as the code takes them
+pub row-line : (table : List ℕ) (k marked : ℕ) → rowSize * (k + 1) ≤ length table → rowLine table k marked
+    ≡ decimal k ++ (kindName (getD table (rowSize * k) 0) ++ (spacedAll (take (rowSize * k + rowSize - (rowSize * k + 1)) (drop (rowSize * k + 1) table)) ++ (bad ++ (spaced marked ++ newline))))
+unfolding rowLine
+row-line table k marked within =
+    let fields : rowSize * k + rowSize - (rowSize * k + 1) ≡ 15 = omega arith in
+    rw (kind-there table k within, fields)
+
+module _ (file table : List ℕ) (compression : ℕ) where
+  abbrev line : ℕ → List ℕ
+  line k = rowLine table k (counting file table k compression .marked)
+
+  -- n + 1 rows: the last behind the first n
+  rows-next : (k n : ℕ) → rowLines file table compression k (suc n) ≡ rowLines file table compression k n ++ line (k + n)
+  unfolding rowLines
+  rows-next k zero = append-nil (line k) ∙ ap line (sym (add-zero k))
+  rows-next k (suc n) =
+      let last : k + 1 + n ≡ k + suc n = omega arith in
+      ap (λ (r : List ℕ). line k ++ r) (rows-next (k + 1) n) ∙ sym (append-assoc (line k) (rowLines file table compression (k + 1) n) (line (k + 1 + n))) ∙ ap (λ (j : ℕ). line k ++ rowLines file table compression (k + 1) n ++ line j) last
+
+  -- before the first turn
+  pub rows-start : (l : List ℕ) (at : ℕ) → Puts l at (rowLines file table compression 0 0) 0 at l
+  unfolding rowLines
+  rows-start l at = puts-none l at
+
+  -- a turn
+  pub rows-turn : {l : List ℕ} {at : ℕ} (k : ℕ) {next : ℕ} {text : List ℕ} {marked end : ℕ} {new : List ℕ} → Puts l at (rowLines file table compression 0 k) (400 * k) next text
+      → at + 400 * (k + 1) ≤ length l → marked ≡ counting file table k compression .marked → Puts text next (rowLine table k marked) 400 end new → Puts l at (rowLines file table compression 0 (k + 1)) (400 * (k + 1)) end new
+  rows-turn k p room e q = rw (add-one, rows-next 0 k, zero-add, ← e) (puts-few (puts-then p (omega arith) (λ r. q)) _ (omega arith))

@@ -1,0 +1,63 @@
+-- `put_rows` meets its contract: the loop's invariant is that the lines of the rows passed are put in a text as long as it was; a turn is `rows-turn`.
+use mathlib.Core.Path.{_≡_, ap}
+use Prim.Native.Nat.{_*_, _-_, _≤_}
+use native.Mathlib.Omega.{arith}
+use borrow.Author.Needs.{needs}
+use lib.ListN.{length}
+use Rattle.xcf_listing.specs.Listing.{rowLines}
+use Rattle.xcf_listing.specs.Parts.{Puts}
+use Rattle.xcf_listing.proofs.Row.{rows-start, rows-turn}
+use Rattle.xcf_listing.proofs.line.put_rows.Statement.{statement}
+use Rattle.xcf_listing.proofs.line.put_rows.Tie as tie
+
+abbrev Inv-loop : tie.InvT-loop
+Inv-loop file table compression rows text₀ at next₀ k₀ text next k =
+    (k ≤ rows) × ((length text ≡ length text₀) × Puts text₀ at (rowLines file table compression 0 k) (400 * k) next text)
+
+abbrev μ-loop : tie.MeasureT-loop
+μ-loop file table compression rows text₀ at next₀ k₀ text next k = rows - k
+
+loop-holds : tie.Need-loop-holds Inv-loop μ-loop
+loop-holds c = (search needs, (search needs, rows-start _ _ _ _ _))
+
+count-marked-requires : tie.Need-count-marked-requires Inv-loop μ-loop
+count-marked-requires c κs = search needs
+
+put-row-requires : tie.Need-put-row-requires Inv-loop μ-loop
+put-row-requires c κs = (omega arith, omega arith)
+
+add-k : tie.Need-add-k Inv-loop μ-loop
+add-k c = search needs
+
+loop-less : tie.Need-loop-less Inv-loop μ-loop
+loop-less c = search needs
+
+loop-again : tie.Need-loop-again Inv-loop μ-loop
+loop-again c =
+    let turn = c .before .before .before .before .before in
+    let start = turn .before .before .before .before .before in
+    let next = rows-turn (start .args .file .now) (start .args .table .now) (start .args .compression) (turn .before .loop .k) (turn .before .loop .inv .1 .1) (omega arith) (ap (λ a. a .marked) (c .before .before .before .before .count-marked .ensures)) (c .before .before .put-row .ensures) in
+    (search needs, (search needs, next))
+
+same-length : tie.Need-same-length Inv-loop μ-loop
+same-length c = search needs
+
+returns : tie.Need-returns Inv-loop μ-loop
+returns c =
+    let all : c .before .loop .k ≡ c .before .before .before .before .before .args .rows = omega arith in
+    rw all at (c .before .loop .inv .1 .1)
+
+pub put-rows-spec : {M : Type 1} → statement M
+put-rows-spec =
+    tie.close
+    (tie.spec
+    Inv-loop
+    μ-loop
+    loop-holds
+    count-marked-requires
+    put-row-requires
+    add-k
+    loop-less
+    loop-again
+    same-length
+    returns)

@@ -1,0 +1,97 @@
+-- `list` meets its contract: what is put is the listing, by the laws of `Listed`; an accepted file has at most 128 rows, whose lines fit the text.
+use native.Mathlib.Omega.{arith}
+use borrow.Author.Needs.{needs}
+use Rattle.xcf_listing.proofs.Written.{puts-then}
+use Rattle.xcf_listing.proofs.Listed.{Listable, listable, lists-none, lists-long, lists-refused, lists-accepted, lists-counted}
+use Rattle.xcf_listing.proofs.list.Statement.{statement}
+use Rattle.xcf_listing.proofs.list.Tie as tie
+
+-- where the reader accepted
+accepted : (c : tie.Else3) → Listable (c .before .before .before .before .read .result) (c .before .before .before .before .read .last .1 .0)
+accepted c = listable _ _ (c .before .before .before .before .read .ensures) (c .if3 .left)
+
+returns : tie.Need-returns
+returns c =
+    let start = c .before .before .before .before in
+    lists-counted
+    (lists-none (start .args .limit) (start .args .file .now) (start .args .table .now) (start .args .text .now) (c .if1 .taken))
+
+put-refusal-requires : tie.Need-put-refusal-requires
+put-refusal-requires c κs = search needs
+
+same-length : tie.Need-same-length
+same-length c = search needs
+
+returns-2 : tie.Need-returns-2
+returns-2 c =
+    let start = c .before .before .before .before .before .before .before .before .before in
+    lists-counted
+    (lists-long (start .args .limit) (start .args .file .now) (start .args .table .now) (start .args .text .now) (c .before .before .before .before .before .if1 .left) (c .before .before .before .before .if2 .taken) (c .before .before .put-refusal .ensures))
+
+read-requires : tie.Need-read-requires
+read-requires c κs = search needs
+
+put-refusal-requires-2 : tie.Need-put-refusal-requires-2
+put-refusal-requires-2 c κs = search needs
+
+same-length-2 : tie.Need-same-length-2
+same-length-2 c = search needs
+
+same-length-3 : tie.Need-same-length-3
+same-length-3 c = search needs
+
+returns-3 : tie.Need-returns-3
+returns-3 c =
+    let start = c .before .before .before .before .before .before .before .before .before .before .before .before .before .before .before in
+    lists-counted
+    (lists-refused (start .args .limit) (start .args .file .now) (start .args .table .now) (start .args .text .now) (c .before .before .before .before .before .before .before .before .before .before .before .if1 .left) (c .before .before .before .before .before .before .before .before .before .before .if2 .left) (c .before .before .before .before .before .before .before .before .read .ensures) (c .before .before .before .before .if3 .taken) (c .before .before .put-refusal2 .ensures))
+
+put-canvas-requires : tie.Need-put-canvas-requires
+put-canvas-requires c κs = search needs
+
+cast-put-rows : tie.Need-cast-put-rows
+cast-put-rows c = omega (arith, accepted (c .before .before .before .before .before .before) .way)
+
+cast-put-rows-2 : tie.Need-cast-put-rows-2
+cast-put-rows-2 c = omega (arith, accepted (c .before .before .before .before .before .before .before) .few)
+
+put-rows-requires : tie.Need-put-rows-requires
+put-rows-requires c κs =
+    let a = accepted (c .before .before .before .before .before .before .before .before) in
+    let put = c .before .before .before .before .before .before .put-canvas .ensures in
+    (omega (arith, a .few, put .behind, put .few, c .before .before .before .before .before .before .before .before .before .before .before .before .before .before .before .if1 .left), omega (arith, a .few, a .size))
+
+same-length-4 : tie.Need-same-length-4
+same-length-4 c = search needs
+
+same-length-5 : tie.Need-same-length-5
+same-length-5 c = search needs
+
+returns-4 : tie.Need-returns-4
+returns-4 c =
+    let start = c .before .before .before .before .before .before .before .before .before .before .before .before .before .before .before .before .before .before .before .before .before .before in
+    let room = c .before .before .before .before .before .before .before .before .before .before .before .before .before .before .before .before .before .before .if1 .left in
+    let put = puts-then (c .before .before .before .before .before .before .before .before .before .put-canvas .ensures) (omega (arith, room, accepted (c .before .before .before .before .before .before .before .before .before .before .before) .few)) λ r. c .before .before .put-rows .ensures in
+    lists-counted
+    (lists-accepted (start .args .limit) (start .args .file .now) (start .args .table .now) (start .args .text .now) room (c .before .before .before .before .before .before .before .before .before .before .before .before .before .before .before .before .before .if2 .left) (c .before .before .before .before .before .before .before .before .before .before .before .before .before .before .before .read .ensures) (c .before .before .before .before .before .before .before .before .before .before .before .if3 .left) put)
+
+pub list-spec : {M : Type 1} → statement M
+list-spec =
+    tie.close
+    (tie.spec
+    returns
+    put-refusal-requires
+    same-length
+    returns-2
+    read-requires
+    put-refusal-requires-2
+    same-length-2
+    same-length-3
+    returns-3
+    put-canvas-requires
+    cast-put-rows
+    cast-put-rows-2
+    put-rows-requires
+    same-length-4
+    same-length-5
+    returns-4)

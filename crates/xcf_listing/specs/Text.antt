@@ -1,0 +1,28 @@
+-- Numbers and words as text, in ASCII.
+use Prim.Native.Nat.{ℕ, zero, suc, _+_, _/_, _%_}
+use mathlib.Core.List.{List, [], _∷_, _++_}
+use mathlib.Core.Bool.{cond}
+use lib.Dec.{ltb}
+
+abbrev pub newline : List ℕ
+newline = 10 ∷ []
+
+abbrev pub space : List ℕ
+space = 32 ∷ []
+
+-- a number in decimal, the high digit first; a number has at most as many digits as `fuel`, which is the number itself
+unfoldable pub decimalWithin : ℕ → ℕ → List ℕ
+decimalWithin zero n = (48 + n) ∷ []
+decimalWithin (suc fuel) n = cond (ltb n 10) ((48 + n) ∷ []) (decimalWithin fuel (n / 10) ++ ((48 + n % 10) ∷ []))
+
+unfoldable pub decimal : ℕ → List ℕ
+decimal n = decimalWithin n n
+
+-- a number behind a space
+unfoldable pub spaced : ℕ → List ℕ
+spaced n = space ++ decimal n
+
+-- numbers, each behind a space
+unfoldable pub spacedAll : List ℕ → List ℕ
+spacedAll [] = []
+spacedAll (n ∷ ns) = spaced n ++ spacedAll ns

@@ -1,0 +1,229 @@
+//! The reference: decoding a whole drawable by its row of the table, written
+//! for clarity.
+
+use std::ops::Range;
+
+use crate::answer::{
+    BAD_TILE_POINTER, DecodeAnswer, FILE_LIMIT, FILE_TOO_LONG, GOOD, ROW_LENGTH, SIDE_LIMIT,
+    TABLE_LENGTH, UNUSABLE, WINDOW_LIMIT, WRONG_LENGTH,
+};
+use crate::tile;
+
+/// The longest side of a tile.
+const TILE_SIDE: usize = 64;
+
+/// The numbers that decoding takes from a row, and the compression, all of
+/// them usable.
+#[derive(Clone, Copy, Debug)]
+pub struct Drawable {
+    width: usize,
+    height: usize,
+    depth: usize,
+    /// The place of the first tile pointer.
+    place: usize,
+    /// How many tiles there are.
+    count: usize,
+    compression: u32,
+}
+
+/// The part of a drawable that a tile covers.
+struct Area {
+    columns: Range<usize>,
+    lines: Range<usize>,
+}
+
+impl Drawable {
+    /// The drawable of a row, unless the table, the file or the row cannot be
+    /// used.
+    pub fn new(
+        file: &[u8],
+        table: &[u32],
+        row: u32,
+        compression: u32,
+    ) -> Result<Self, DecodeAnswer> {
+        if table.len() != TABLE_LENGTH {
+            return Err(DecodeAnswer::refused(WRONG_LENGTH, 0));
+        }
+        if file.len() > FILE_LIMIT {
+            return Err(DecodeAnswer::refused(FILE_TOO_LONG, 0));
+        }
+        table
+            .chunks(ROW_LENGTH)
+            .nth(row as usize)
+            .and_then(|row| Drawable::of_row(row, compression))
+            .filter(|drawable| drawable.pointers_end() <= file.len())
+            .ok_or(DecodeAnswer::refused(UNUSABLE, 0))
+    }
+
+    /// The row's numbers, if each is in range and the tile count fits the
+    /// sides.
+    fn of_row(row: &[u32], compression: u32) -> Option<Self> {
+        let in_range = (1..=3).contains(&row[0])
+            && (1..=SIDE_LIMIT).contains(&row[1])
+            && (1..=SIDE_LIMIT).contains(&row[2])
+            && (1..=4).contains(&row[3])
+            && compression <= 1;
+        let drawable = Drawable {
+            width: row[1] as usize,
+            height: row[2] as usize,
+            depth: row[3] as usize,
+            place: row[8] as usize,
+            count: row[9] as usize,
+            compression,
+        };
+        (in_range && drawable.count == drawable.tiles_across() * drawable.tiles_down())
+            .then_some(drawable)
+    }
+
+    fn tiles_across(&self) -> usize {
+        self.width.div_ceil(TILE_SIDE)
+    }
+
+    fn tiles_down(&self) -> usize {
+        self.height.div_ceil(TILE_SIDE)
+    }
+
+    /// The end of the tile pointers and of the word that closes them.
+    fn pointers_end(&self) -> usize {
+        self.place + 4 * (self.count + 1)
+    }
+
+    /// Bytes in all pixels.
+    pub fn pixels_length(&self) -> usize {
+        self.width * self.height * self.depth
+    }
+
+    /// How many tiles there are.
+    pub fn tile_count(&self) -> usize {
+        self.count
+    }
+
+    /// The tiles' windows, unless a pointer or the closing word is bad.
+    pub fn windows(&self, file: &[u8]) -> Result<Vec<Range<usize>>, DecodeAnswer> {
+        let (words, _) = file[self.place..self.pointers_end()].as_chunks();
+        let words: Vec<usize> = words
+            .iter()
+            .map(|&word| u32::from_be_bytes(word) as usize)
+            .collect();
+        let (&closing, pointers) = words.split_last().expect("the closing word");
+        let mut ends = Vec::new();
+        for (i, &pointer) in pointers.iter().enumerate() {
+            let before = if i == 0 { 0 } else { pointers[i - 1] };
+            if pointer <= before || pointer >= file.len() {
+                return Err(self.bad_word(i));
+            }
+            ends.push(pointers.get(i + 1).copied().unwrap_or(file.len()));
+        }
+        if closing != 0 {
+            return Err(self.bad_word(self.count));
+        }
+        let windows = pointers.iter().zip(ends);
+        Ok(windows
+            .map(|(&start, end)| start..end.min(start + WINDOW_LIMIT))
+            .collect())
+    }
+
+    fn bad_word(&self, index: usize) -> DecodeAnswer {
+        DecodeAnswer::refused(BAD_TILE_POINTER, self.place + 4 * index)
+    }
+
+    fn area(&self, tile: usize) -> Area {
+        let left = tile % self.tiles_across() * TILE_SIDE;
+        let top = tile / self.tiles_across() * TILE_SIDE;
+        Area {
+            columns: left..self.width.min(left + TILE_SIDE),
+            lines: top..self.height.min(top + TILE_SIDE),
+        }
+    }
+
+    /// Where the lines of a tile lie among the drawable's bytes.
+    fn lines(&self, tile: usize) -> impl Iterator<Item = Range<usize>> {
+        let Drawable { width, depth, .. } = *self;
+        let Area { columns, lines } = self.area(tile);
+        lines.map(move |line| {
+            let start = line * width;
+            (start + columns.start) * depth..(start + columns.end) * depth
+        })
+    }
+
+    /// The bytes of a tile, cut out of the drawable's.
+    pub fn cut_out(&self, tile: usize, pixels: &[u8]) -> Vec<u8> {
+        self.lines(tile)
+            .flat_map(|line| &pixels[line])
+            .copied()
+            .collect()
+    }
+
+    /// A tile's mark and its bytes, from its window.
+    fn decode_tile(&self, tile: usize, window: &[u8]) -> (u8, Vec<u8>) {
+        let Area { columns, lines } = self.area(tile);
+        let (width, height) = (columns.len() as u32, lines.len() as u32);
+        let mut bytes = vec![0; columns.len() * lines.len() * self.depth];
+        let depth = self.depth as u32;
+        let answer = tile::decode_tile(window, width, height, depth, self.compression, &mut bytes);
+        assert_eq!(answer.number, 0, "every tile of a drawable is usable");
+        (answer.mark as u8, bytes)
+    }
+
+    /// Fills the lent buffers; gives how many tiles are marked.
+    fn fill(
+        &self,
+        file: &[u8],
+        pixels: &mut [u8],
+        marks: &mut [u8],
+    ) -> Result<usize, DecodeAnswer> {
+        if pixels.len() != self.pixels_length() || marks.len() != self.count {
+            return Err(DecodeAnswer::refused(WRONG_LENGTH, 0));
+        }
+        for (tile, window) in self.windows(file)?.into_iter().enumerate() {
+            let (mark, bytes) = self.decode_tile(tile, &file[window]);
+            marks[tile] = mark;
+            let mut rest = &bytes[..];
+            for line in self.lines(tile) {
+                let (first, later) = rest.split_at(line.len());
+                pixels[line].copy_from_slice(first);
+                rest = later;
+            }
+        }
+        Ok(count_bad(marks))
+    }
+
+    /// The marks of all tiles.
+    fn marks(&self, file: &[u8]) -> Result<Vec<u8>, DecodeAnswer> {
+        let windows = self.windows(file)?.into_iter().enumerate();
+        Ok(windows
+            .map(|(tile, window)| self.decode_tile(tile, &file[window]).0)
+            .collect())
+    }
+}
+
+/// How many marks are not those of good tiles.
+fn count_bad(marks: &[u8]) -> usize {
+    let is_bad = |mark: &&u8| u64::from(**mark) != GOOD;
+    marks.iter().filter(is_bad).count()
+}
+
+/// Decodes the drawable of a row into its pixels, line by line, and a mark for
+/// each tile.
+pub fn decode(
+    file: &[u8],
+    table: &[u32],
+    row: u32,
+    compression: u32,
+    pixels: &mut [u8],
+    marks: &mut [u8],
+) -> DecodeAnswer {
+    Drawable::new(file, table, row, compression)
+        .and_then(|drawable| drawable.fill(file, pixels, marks))
+        .map_or_else(|refusal| refusal, DecodeAnswer::decoded)
+}
+
+/// Counts the marked tiles of the drawable of a row.
+pub fn count_marked(file: &[u8], table: &[u32], row: u32, compression: u32) -> DecodeAnswer {
+    Drawable::new(file, table, row, compression)
+        .and_then(|drawable| drawable.marks(file))
+        .map_or_else(
+            |refusal| refusal,
+            |marks| DecodeAnswer::decoded(count_bad(&marks)),
+        )
+}

@@ -1,0 +1,148 @@
+//! Files written front to back, whose pointers are set once it is known where
+//! they lead.
+
+use super::DEPTHS;
+
+/// What an image's structure holds before its pointers.
+pub struct ImageFields {
+    pub tag: &'static [u8; 5],
+    pub sides: [u32; 2],
+    pub base: u32,
+    /// The property list without its end.
+    pub list: Vec<u8>,
+}
+
+/// What a drawable's structure holds before its pointers, and its tiles.
+pub struct DrawableFields {
+    pub sides: [u32; 2],
+    pub name: String,
+    /// The property list without its end.
+    pub list: Vec<u8>,
+    /// The tiles' bytes, laid out one after the other.
+    pub tiles: Vec<Vec<u8>>,
+}
+
+pub struct Layer {
+    /// The layer's type.
+    pub kind: u32,
+    pub fields: DrawableFields,
+    pub mask: Option<DrawableFields>,
+}
+
+#[derive(Default)]
+pub struct Writer {
+    pub file: Vec<u8>,
+}
+
+impl Writer {
+    fn words(&mut self, words: &[u32]) {
+        let bytes = words.iter().flat_map(|word| word.to_be_bytes());
+        self.file.extend(bytes);
+    }
+
+    /// Appends a string; an empty one has no closing zero.
+    fn name(&mut self, name: &str) {
+        if name.is_empty() {
+            self.words(&[0]);
+        } else {
+            self.words(&[name.len() as u32 + 1]);
+            self.file.extend(name.as_bytes());
+            self.file.push(0);
+        }
+    }
+
+    fn list(&mut self, list: &[u8]) {
+        self.file.extend(list);
+        self.words(&[0, 0]);
+    }
+
+    /// Appends a pointer that leads nowhere yet; gives its place.
+    fn pointer(&mut self) -> usize {
+        self.words(&[0]);
+        self.file.len() - 4
+    }
+
+    /// Lets the pointer at `place` lead to what is appended next.
+    pub fn lead_here(&mut self, place: usize) {
+        let here = self.file.len() as u32;
+        self.file[place..place + 4].copy_from_slice(&here.to_be_bytes());
+    }
+
+    /// Appends an image's structure; gives the places of the pointers to
+    /// layers and channels.
+    pub fn image(&mut self, fields: &ImageFields, layers: usize, channels: usize) -> Vec<usize> {
+        self.file.extend(b"gimp xcf ");
+        self.file.extend(fields.tag);
+        self.words(&fields.sides);
+        self.words(&[fields.base]);
+        self.list(&fields.list);
+        let mut pointers: Vec<usize> = (0..layers).map(|_| self.pointer()).collect();
+        self.words(&[0]);
+        pointers.extend((0..channels).map(|_| self.pointer()));
+        self.words(&[0]);
+        pointers
+    }
+
+    /// Appends a layer and all that belongs to it.
+    pub fn layer(&mut self, layer: &Layer) {
+        let Layer { kind, fields, mask } = layer;
+        self.words(&fields.sides);
+        self.words(&[*kind]);
+        let hierarchy = self.shared_fields(fields);
+        let mask_pointer = self.pointer();
+        self.lead_here(hierarchy);
+        self.hierarchy(DEPTHS[*kind as usize], fields);
+        if let Some(mask) = mask {
+            self.lead_here(mask_pointer);
+            self.channel(mask);
+        }
+    }
+
+    /// Appends a channel or mask and all that belongs to it.
+    pub fn channel(&mut self, fields: &DrawableFields) {
+        self.words(&fields.sides);
+        let hierarchy = self.shared_fields(fields);
+        self.lead_here(hierarchy);
+        self.hierarchy(1, fields);
+    }
+
+    /// Appends the fields from the name on; gives the place of the hierarchy
+    /// pointer.
+    fn shared_fields(&mut self, fields: &DrawableFields) -> usize {
+        self.name(&fields.name);
+        self.list(&fields.list);
+        self.pointer()
+    }
+
+    /// Appends a hierarchy, its level and the tiles.
+    fn hierarchy(&mut self, depth: u32, fields: &DrawableFields) {
+        self.words(&fields.sides);
+        self.words(&[depth]);
+        let level = self.pointer();
+        self.words(&[0]);
+        self.lead_here(level);
+        self.words(&fields.sides);
+        let pointers: Vec<usize> = fields.tiles.iter().map(|_| self.pointer()).collect();
+        self.words(&[0]);
+        for (pointer, tile) in pointers.into_iter().zip(&fields.tiles) {
+            self.lead_here(pointer);
+            self.file.extend(tile);
+        }
+    }
+}
+
+/// The file of an image, its layers and its channels, without gaps.
+pub fn write_file(image: &ImageFields, layers: &[Layer], channels: &[DrawableFields]) -> Vec<u8> {
+    let mut writer = Writer::default();
+    let pointers = writer.image(image, layers.len(), channels.len());
+    let (to_layers, to_channels) = pointers.split_at(layers.len());
+    for (&pointer, layer) in to_layers.iter().zip(layers) {
+        writer.lead_here(pointer);
+        writer.layer(layer);
+    }
+    for (&pointer, channel) in to_channels.iter().zip(channels) {
+        writer.lead_here(pointer);
+        writer.channel(channel);
+    }
+    writer.file
+}

@@ -1,0 +1,166 @@
+//! Compares the library's decoder of drawables with the reference: equal
+//! answers, equal pixels, equal marks, and the same count of marked tiles.
+
+use xcf_compare::answer::{
+    BAD_TILE_POINTER, DecodeAnswer, GOOD, OVERRUN, TOO_SOON, UNUSABLE, WRONG_LENGTH,
+};
+use xcf_compare::cases::drawable::{DrawableCase, Kind, random_case};
+use xcf_compare::guard::{Guarded, difference};
+use xcf_compare::random::Random;
+use xcf_compare::tally::Tally;
+use xcf_compare::{decode, library, report};
+
+const SEED: u64 = 0x6472_6177_0000_0001;
+const CASES: usize = 30_000;
+
+/// Decodes with both and asserts that all is equal; gives the answer and the
+/// marks.
+fn decode_both(case: &DrawableCase) -> (DecodeAnswer, Vec<u8>) {
+    let (file, table) = (&case.file, &case.table);
+    let (row, compression) = (case.row, case.compression);
+    let mut ours = [&case.pixels, &case.marks].map(|lent| Guarded::new(lent));
+    let mut theirs = ours.clone();
+    let [pixels, marks] = ours.each_mut().map(Guarded::lent);
+    let expected = decode::decode(file, table, row, compression, pixels, marks);
+    let [pixels, marks] = theirs.each_mut().map(Guarded::lent);
+    let given = library::decode(file, table, row, compression, pixels, marks);
+    assert_eq!(given, expected, "{}", case.summary());
+    for (ours, theirs) in ours.iter().zip(&theirs) {
+        assert_eq!(theirs.difference(ours), None, "{}", case.summary());
+    }
+    let [pixels, marks] = ours.each_mut().map(Guarded::lent);
+    if expected.number != 0 {
+        assert_eq!(difference(pixels, &case.pixels), None);
+        assert_eq!(difference(marks, &case.marks), None);
+    }
+    (expected, marks.to_vec())
+}
+
+/// Counts with both and asserts that they agree; gives the answer.
+fn count_both(case: &DrawableCase) -> DecodeAnswer {
+    let [expected, given] = [decode::count_marked, library::count_marked]
+        .map(|count| count(&case.file, &case.table, case.row, case.compression));
+    assert_eq!(given, expected, "{}", case.summary());
+    expected
+}
+
+/// What was seen in the drawables that were decoded.
+#[derive(Default)]
+struct Seen {
+    good: usize,
+    too_soon: usize,
+    overrun: usize,
+    /// Drawables with good and with marked tiles.
+    mixed: usize,
+    /// Drawables of several tiles, the last of them cut, in both directions.
+    ragged: usize,
+    /// Decoded drawables of each depth, of each compression and, where the
+    /// file is a valid one, of each version.
+    depths: [usize; 5],
+    compressions: [usize; 2],
+    versions: [usize; 4],
+    /// Drawables in the last row of the table.
+    last_rows: usize,
+    /// Calls that only the lent buffers refused, so that counting succeeds.
+    counted_alone: usize,
+}
+
+impl Seen {
+    fn add(&mut self, case: &DrawableCase, marks: &[u8]) {
+        let count = |mark: u64| marks.iter().filter(|&&m| u64::from(m) == mark).count();
+        let (good, too_soon, overrun) = (count(GOOD), count(TOO_SOON), count(OVERRUN));
+        assert_eq!(good + too_soon + overrun, marks.len());
+        self.good += good;
+        self.too_soon += too_soon;
+        self.overrun += overrun;
+        self.mixed += usize::from(0 < good && good < marks.len());
+        let row = case.row_numbers().expect("the row was decoded");
+        let is_ragged = |side: u32| side > 64 && !side.is_multiple_of(64);
+        self.ragged += usize::from(is_ragged(row[1]) && is_ragged(row[2]));
+        self.depths[row[3] as usize] += 1;
+        self.compressions[case.compression as usize] += 1;
+        self.last_rows += usize::from(case.row == 127);
+        if case.kind == Kind::Read {
+            let tag = &case.file[9..13];
+            let version = [b"file", b"v001", b"v002", b"v003"]
+                .iter()
+                .position(|&t| t == tag);
+            self.versions[version.expect("a valid file")] += 1;
+        }
+    }
+
+    fn report(&self) {
+        report(&format!(
+            "drawables: {} good tiles, {} marked 20, {} marked 21, {} mixed, {} with several cut \
+             tiles both ways, {} in the last row, depths {:?}, compressions {:?}, versions {:?}, {} \
+             counted alone",
+            self.good,
+            self.too_soon,
+            self.overrun,
+            self.mixed,
+            self.ragged,
+            self.last_rows,
+            &self.depths[1..],
+            self.compressions,
+            self.versions,
+            self.counted_alone
+        ));
+    }
+
+    /// Asserts that all is there often enough to be worth running.
+    fn assert_varied(&self) {
+        assert!(self.good >= 25_000 && self.too_soon >= 12_000 && self.overrun >= 5_000);
+        assert!(self.mixed >= 3_000 && self.ragged >= 1_500 && self.last_rows >= 1_000);
+        assert!(self.depths[1..].iter().all(|&count| count >= 1_000));
+        assert!(self.compressions.iter().all(|&count| count >= 3_000));
+        assert!(self.versions.iter().all(|&count| count >= 1_000));
+        assert!(self.counted_alone >= 400);
+    }
+}
+
+#[test]
+fn drawables_agree() {
+    let mut random = Random::new(SEED);
+    let mut tally = Tally::default();
+    let mut seen = Seen::default();
+    for _ in 0..CASES {
+        let case = random_case(&mut random);
+        let (answer, marks) = decode_both(&case);
+        let counted = count_both(&case);
+        if let Some((number, place)) = case.known {
+            let given = (answer.number, answer.place as usize);
+            assert_eq!(given, (number, place), "{}", case.summary());
+        }
+        if answer.number == 0 {
+            seen.add(&case, &marks);
+            assert_eq!(counted, answer, "{}", case.summary());
+        } else if counted != answer {
+            assert_eq!(answer, DecodeAnswer::refused(WRONG_LENGTH, 0));
+            seen.counted_alone += usize::from(counted.number == 0);
+        }
+        tally.add(case.kind, answer.number);
+    }
+    tally.report("drawable");
+    seen.report();
+    seen.assert_varied();
+    assert_tallied(&tally);
+}
+
+/// Asserts that every outcome is there often enough, and no other.
+fn assert_tallied(tally: &Tally<Kind>) {
+    let mut sum = 0;
+    for (number, least) in [
+        (0, 12_000),
+        (WRONG_LENGTH, 1_500),
+        (UNUSABLE, 5_000),
+        (BAD_TILE_POINTER, 2_500),
+    ] {
+        assert!(tally.all(number) >= least, "{number}");
+        sum += tally.all(number);
+    }
+    assert_eq!(sum, CASES);
+    for number in [WRONG_LENGTH, UNUSABLE, BAD_TILE_POINTER] {
+        assert!(tally.of(Kind::Several, number) >= 400, "{number}");
+    }
+    assert!(tally.of(Kind::Damaged, 0) >= 2_000);
+}
