@@ -1,7 +1,13 @@
-//! Programs that write files to a folder.
+//! Folders that programs write files to, and that tests find them in.
 
-use std::path::Path;
+use std::path::{Path, PathBuf};
 use std::{env, io, process};
+
+/// The folder of a crate in the library's language.
+pub fn of_crate(name: &str) -> PathBuf {
+    let crates = Path::new(env!("CARGO_MANIFEST_DIR")).join("../crates");
+    crates.join(name)
+}
 
 /// Lets `write` fill the folder that is the program's only argument, and prints
 /// the line that it gives; ends the program where that fails.

@@ -51,6 +51,12 @@ pub fn build() -> Vec<ListCase> {
     cases
 }
 
+/// Each file's name in a line.
+pub fn arguments(cases: &[ListCase]) -> String {
+    let line = |case: &ListCase| format!("{}\n", case.name);
+    cases.iter().map(line).collect()
+}
+
 /// Each file's name, and behind it the file's listing.
 pub fn expected(cases: &[ListCase]) -> String {
     let listing = |case: &ListCase| format!("{}\n{}", case.name, list(&case.file));

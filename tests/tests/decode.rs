@@ -2,9 +2,10 @@
 //! answers, equal pixels, equal marks, and the same count of marked tiles.
 
 use xcf_compare::answer::{
-    BAD_TILE_POINTER, DecodeAnswer, GOOD, OVERRUN, TOO_SOON, UNUSABLE, WRONG_LENGTH,
+    BAD_TILE_POINTER, DecodeAnswer, GOOD, OVERRUN, TABLE_LENGTH, TOO_SOON, UNUSABLE, WRONG_LENGTH,
 };
 use xcf_compare::cases::drawable::{DrawableCase, Kind, random_case};
+use xcf_compare::decode::Drawable;
 use xcf_compare::guard::{Guarded, difference};
 use xcf_compare::random::Random;
 use xcf_compare::tally::Tally;
@@ -29,11 +30,23 @@ fn decode_both(case: &DrawableCase) -> (DecodeAnswer, Vec<u8>) {
         assert_eq!(theirs.difference(ours), None, "{}", case.summary());
     }
     let [pixels, marks] = ours.each_mut().map(Guarded::lent);
-    if expected.number != 0 {
+    if expected.number == 0 {
+        assert_zero_where_marked(case, pixels, marks);
+    } else {
         assert_eq!(difference(pixels, &case.pixels), None);
         assert_eq!(difference(marks, &case.marks), None);
     }
     (expected, marks.to_vec())
+}
+
+/// Asserts that the pixels of marked tiles are all zero.
+fn assert_zero_where_marked(case: &DrawableCase, pixels: &[u8], marks: &[u8]) {
+    let drawable = Drawable::new(&case.file, &case.table, case.row, case.compression);
+    let drawable = drawable.expect("the row was decoded");
+    for (tile, &mark) in marks.iter().enumerate() {
+        let is_zero = || drawable.cut_out(tile, pixels).iter().all(|&byte| byte == 0);
+        assert!(mark == 0 || is_zero(), "tile {tile} of {}", case.summary());
+    }
 }
 
 /// Counts with both and asserts that they agree; gives the answer.
@@ -61,15 +74,17 @@ struct Seen {
     versions: [usize; 4],
     /// Drawables in the last row of the table.
     last_rows: usize,
-    /// Calls that only the lent buffers refused, so that counting succeeds.
+    /// Calls that only the lent pixels or marks refused, so that counting
+    /// succeeds.
     counted_alone: usize,
 }
 
 impl Seen {
-    fn add(&mut self, case: &DrawableCase, marks: &[u8]) {
+    fn add(&mut self, case: &DrawableCase, answer: DecodeAnswer, marks: &[u8]) {
         let count = |mark: u64| marks.iter().filter(|&&m| u64::from(m) == mark).count();
         let (good, too_soon, overrun) = (count(GOOD), count(TOO_SOON), count(OVERRUN));
         assert_eq!(good + too_soon + overrun, marks.len());
+        assert_eq!(answer, DecodeAnswer::decoded(too_soon + overrun));
         self.good += good;
         self.too_soon += too_soon;
         self.overrun += overrun;
@@ -109,12 +124,12 @@ impl Seen {
 
     /// Asserts that all is there often enough to be worth running.
     fn assert_varied(&self) {
-        assert!(self.good >= 25_000 && self.too_soon >= 12_000 && self.overrun >= 5_000);
-        assert!(self.mixed >= 3_000 && self.ragged >= 1_500 && self.last_rows >= 1_000);
-        assert!(self.depths[1..].iter().all(|&count| count >= 1_000));
+        assert!(self.good >= 25_000 && self.too_soon >= 12_000 && self.overrun >= 7_000);
+        assert!(self.mixed >= 3_000 && self.ragged >= 1_500 && self.last_rows >= 2_500);
+        assert!(self.depths[1..].iter().all(|&count| count >= 1_500));
         assert!(self.compressions.iter().all(|&count| count >= 3_000));
-        assert!(self.versions.iter().all(|&count| count >= 1_000));
-        assert!(self.counted_alone >= 400);
+        assert!(self.versions.iter().all(|&count| count >= 1_500));
+        assert!(self.counted_alone >= 700);
     }
 }
 
@@ -132,11 +147,14 @@ fn drawables_agree() {
             assert_eq!(given, (number, place), "{}", case.summary());
         }
         if answer.number == 0 {
-            seen.add(&case, &marks);
-            assert_eq!(counted, answer, "{}", case.summary());
-        } else if counted != answer {
-            assert_eq!(answer, DecodeAnswer::refused(WRONG_LENGTH, 0));
+            seen.add(&case, answer, &marks);
+        }
+        // Only the lent pixels and marks make a difference.
+        if answer.number == WRONG_LENGTH && case.table.len() == TABLE_LENGTH {
+            assert!(counted.number == 0 || case.kind == Kind::Several);
             seen.counted_alone += usize::from(counted.number == 0);
+        } else {
+            assert_eq!(counted, answer, "{}", case.summary());
         }
         tally.add(case.kind, answer.number);
     }
@@ -162,5 +180,16 @@ fn assert_tallied(tally: &Tally<Kind>) {
     for number in [WRONG_LENGTH, UNUSABLE, BAD_TILE_POINTER] {
         assert!(tally.of(Kind::Several, number) >= 400, "{number}");
     }
-    assert!(tally.of(Kind::Damaged, 0) >= 2_000);
+    for (kind, number) in [
+        (Kind::Read, 0),
+        (Kind::Damaged, 0),
+        (Kind::Loose, 0),
+        (Kind::Field, UNUSABLE),
+        (Kind::RowNumber, UNUSABLE),
+        (Kind::Compression, UNUSABLE),
+        (Kind::WrongLength, WRONG_LENGTH),
+        (Kind::Pointer, BAD_TILE_POINTER),
+    ] {
+        assert!(tally.of(kind, number) >= 1_000, "{kind:?}");
+    }
 }

@@ -61,6 +61,15 @@ impl Call {
         }
     }
 
+    /// The same call with so many bytes lent.
+    fn lent(&self, pixels: usize, marks: usize) -> Self {
+        Call {
+            pixels,
+            marks,
+            ..self.clone()
+        }
+    }
+
     /// The answer and the buffers that a decoder gives.
     fn decode(&self, decode: DecodeDrawable) -> (DecodeAnswer, Vec<u8>, Vec<u8>) {
         let mut pixels = vec![FILLING; self.pixels];
@@ -153,19 +162,10 @@ fn number_11_for_the_table() {
 #[test]
 fn number_11_for_pixels_or_marks() {
     let call = pair();
-    for pixels in [0, 64, 66, 130] {
-        let call = Call {
-            pixels,
-            ..call.clone()
-        };
-        call.assert_not_decoded(11, 0);
-        call.assert_counts(DecodeAnswer::decoded(0));
-    }
-    for marks in [0, 1, 3, 65] {
-        let call = Call {
-            marks,
-            ..call.clone()
-        };
+    let pixels = [0, 64, 66, 130].map(|pixels| (pixels, 2));
+    let marks = [0, 1, 3, 65].map(|marks| (65, marks));
+    for (pixels, marks) in [pixels, marks].concat() {
+        let call = call.lent(pixels, marks);
         call.assert_not_decoded(11, 0);
         call.assert_counts(DecodeAnswer::decoded(0));
     }
@@ -238,12 +238,7 @@ fn number_14_for_numbers_that_wrap() {
             .with_field(2, height)
             .with_field(9, count);
         for (pixels, marks) in [(0, 0), (1, 1)] {
-            Call {
-                pixels,
-                marks,
-                ..call.clone()
-            }
-            .assert_refused(14, 0);
+            call.lent(pixels, marks).assert_refused(14, 0);
         }
     }
 }
@@ -293,27 +288,14 @@ fn number_13_at_the_lowest_bad_word() {
 #[test]
 fn row_before_the_lent_pixels_and_marks() {
     let call = Call::example().with_field(3, 0);
-    Call {
-        pixels: 0,
-        marks: 0,
-        ..call
-    }
-    .assert_refused(14, 0);
+    call.lent(0, 0).assert_refused(14, 0);
 }
 
 #[test]
 fn lent_pixels_and_marks_before_the_pointers() {
     let call = Call::example().with_word(133, 0);
-    Call {
-        pixels: 2,
-        ..call.clone()
-    }
-    .assert_not_decoded(11, 0);
-    Call {
-        marks: 0,
-        ..call.clone()
-    }
-    .assert_not_decoded(11, 0);
+    call.lent(2, 1).assert_not_decoded(11, 0);
+    call.lent(1, 0).assert_not_decoded(11, 0);
     call.assert_refused(13, 133);
 }
 

@@ -1,12 +1,13 @@
-//! Damage stays in its tile: bytes written only where chosen tiles have their
-//! windows, and no other tile and no structure has a byte, change no other
+//! Damage stays in its tile: bytes written only where no structure has a byte,
+//! and of the tiles at most the chosen ones in their windows, change no other
 //! tile, and nothing that reading gives. All through the library.
 
 use std::ops::Range;
 
-use xcf_compare::answer::{DecodeDrawable, ROW_LENGTH, ReadAnswer, TABLE_LENGTH};
+use xcf_compare::answer::{DecodeAnswer, DecodeDrawable, ROW_LENGTH, ReadAnswer, TABLE_LENGTH};
 use xcf_compare::decode::Drawable;
-use xcf_compare::files::{decodable_file, random_table};
+use xcf_compare::files::laid::layered;
+use xcf_compare::files::{EXAMPLE, decodable_file, random_table};
 use xcf_compare::random::Random;
 use xcf_compare::read::structure_bytes;
 use xcf_compare::{decode, library, report};
@@ -80,17 +81,24 @@ fn marked<'a>(length: usize, ranges: impl IntoIterator<Item = &'a Range<usize>>)
     marked
 }
 
-/// A byte that is no structure's, and the places that may be written to.
+/// Which bytes of an accepted file are a structure's.
+fn structures(file: &[u8]) -> Vec<bool> {
+    let structures = structure_bytes(file).expect("a file that was read");
+    marked(file.len(), &structures)
+}
+
+/// A byte that is no structure's, the places that may be written to, and
+/// whether some of these are in no window.
 struct Choice {
     byte: usize,
     places: Vec<usize>,
+    has_gap: bool,
 }
 
 /// Chooses every tile that has a byte, picked at random, in its window, and
 /// perhaps others. `None` if only structure bytes were picked.
 fn choose(random: &mut Random, file: &[u8], tiles: &mut [Tile]) -> Option<Choice> {
-    let structures = structure_bytes(file).expect("a file that was read");
-    let is_structure = marked(file.len(), &structures);
+    let is_structure = structures(file);
     let mut pick = || {
         let Range { start, end } = tiles[random.below(tiles.len())].window;
         random.between(start, end - 1)
@@ -107,12 +115,28 @@ fn choose(random: &mut Random, file: &[u8], tiles: &mut [Tile]) -> Option<Choice
     };
     let is_chosen = marked(file.len(), windows(true));
     let is_other = marked(file.len(), windows(false));
-    let is_free = |&place: &usize| is_chosen[place] && !is_other[place] && !is_structure[place];
-    let places = (0..file.len()).filter(is_free).collect();
-    Some(Choice { byte, places })
+    let is_free = |&place: &usize| !is_other[place] && !is_structure[place];
+    let places: Vec<usize> = (0..file.len()).filter(is_free).collect();
+    let has_gap = places.iter().any(|&place| !is_chosen[place]);
+    Some(Choice {
+        byte,
+        places,
+        has_gap,
+    })
 }
 
-/// Writes random bytes at one, some or all of the places.
+/// The file with random bytes at one, some or all of the places, at least one
+/// of them another than before.
+fn written(random: &mut Random, file: &[u8], places: &[usize]) -> Vec<u8> {
+    loop {
+        let mut new = file.to_vec();
+        write(random, &mut new, places);
+        if new != file {
+            return new;
+        }
+    }
+}
+
 fn write(random: &mut Random, file: &mut [u8], places: &[usize]) {
     match random.below(3) {
         0 => file[random.pick(places)] = random.byte(),
@@ -151,7 +175,10 @@ impl Decoded {
         let compression = reading.compression();
         let lent = (&mut pixels[..], &mut marks[..]);
         let answer = decode(file, &reading.table, row, compression, lent.0, lent.1);
-        assert_eq!((answer.number, answer.place), (0, 0));
+        let marked = marks.iter().filter(|&&mark| mark != 0).count();
+        assert_eq!(answer, DecodeAnswer::decoded(marked));
+        let counted = library::count_marked(file, &reading.table, row, compression);
+        assert_eq!(counted, answer);
         Decoded { marks, pixels }
     }
 
@@ -166,12 +193,18 @@ impl Decoded {
 struct Seen {
     chosen: usize,
     others: usize,
+    /// Others that are good.
+    good_others: usize,
     good_to_marked: usize,
     marked_to_good: usize,
     /// Chosen tiles that stayed good, with other pixels.
     other_pixels: usize,
     /// Chosen tiles whose mark and pixels did not change.
     unchanged: usize,
+    /// Pairs of plain and of encoded files.
+    compressions: [usize; 2],
+    /// Pairs that may differ where no tile has a byte.
+    gaps: usize,
     /// Pairs with a chosen tile and another one in one row.
     split: usize,
     /// Pairs with a tile that was chosen in two rows that share their pointers.
@@ -195,14 +228,17 @@ impl Seen {
 
     /// Counts a pair of files by its choice of tiles. In each row one window
     /// at most has the byte that the choice started from.
-    fn add_choice(&mut self, reading: &Reading, tiles: &[Tile], byte: usize) {
+    fn add_choice(&mut self, reading: &Reading, tiles: &[Tile], choice: &Choice) {
+        self.compressions[reading.compression() as usize] += 1;
+        self.gaps += usize::from(choice.has_gap);
         let is_split = |row: &[Tile]| {
             let chosen = row.iter().filter(|tile| tile.is_chosen).count();
             0 < chosen && chosen < row.len()
         };
         let mut rows = tiles.chunk_by(|one, other| one.row == other.row);
         self.split += usize::from(rows.any(is_split));
-        let with_byte = tiles.iter().filter(|tile| tile.window.contains(&byte));
+        let has_byte = |tile: &&Tile| tile.window.contains(&choice.byte);
+        let with_byte = tiles.iter().filter(has_byte);
         let mut pointers: Vec<u32> = with_byte.map(|tile| reading.pointers(tile.row)).collect();
         let rows = pointers.len();
         pointers.sort();
@@ -213,16 +249,20 @@ impl Seen {
 
     fn report(&self) {
         report(&format!(
-            "isolation: {PAIRS} pairs of files, {} chosen tiles, {} others; of the chosen {} went \
-             from good to marked, {} from marked to good, {} stayed good with other pixels, {} \
-             did not change; pairs: {} with a row in part chosen, {} with shared pointers, {} \
-             with overlapping windows",
+            "isolation: {PAIRS} pairs of files, {} chosen tiles, {} others of which {} are good; \
+             of the chosen {} went from good to marked, {} from marked to good, {} stayed good \
+             with other pixels, {} did not change; pairs: compressions {:?}, {} with bytes of no \
+             tile, {} with a row in part chosen, {} with shared pointers, {} with overlapping \
+             windows",
             self.chosen,
             self.others,
+            self.good_others,
             self.good_to_marked,
             self.marked_to_good,
             self.other_pixels,
             self.unchanged,
+            self.compressions,
+            self.gaps,
             self.split,
             self.shared,
             self.overlapping
@@ -231,9 +271,12 @@ impl Seen {
 
     /// Asserts that all is there often enough to be worth running.
     fn assert_varied(&self) {
-        assert!(self.chosen >= 10_000 && self.others >= 20_000);
-        assert!(self.good_to_marked >= 500 && self.other_pixels >= 500);
-        assert!(self.split >= 500 && self.shared >= 500 && self.overlapping >= 500);
+        assert!(self.chosen >= 50_000 && self.others >= 100_000);
+        assert!(self.good_others >= 60_000 && self.other_pixels >= 10_000);
+        assert!(self.good_to_marked >= 3_000 && self.marked_to_good >= 3_000);
+        assert!(self.compressions.iter().all(|&count| count >= 1_000));
+        assert!(self.gaps >= 1_000 && self.split >= 3_000);
+        assert!(self.shared >= 2_000 && self.overlapping >= 2_500);
     }
 }
 
@@ -251,7 +294,7 @@ fn read_file(random: &mut Random) -> (Vec<u8>, Reading, Vec<Tile>) {
 }
 
 /// Asserts that all rows of the old and the new file agree but for the chosen
-/// tiles, which are as the new file has them.
+/// tiles, and that all are as the new file has them.
 fn compare(
     random: &mut Random,
     files: [&[u8]; 2],
@@ -269,19 +312,30 @@ fn compare(
             decoded
         });
         let expected = Decoded::new(random, decode::decode, files[1], reading, row);
+        assert!(new == expected, "row {row}");
         for &Tile {
             tile, is_chosen, ..
         } in tiles
         {
-            let [old, new, expected] = [&old, &new, &expected].map(|row| row.tile(&drawable, tile));
+            let [old, new] = [&old, &new].map(|row| row.tile(&drawable, tile));
             if is_chosen {
-                assert!(new == expected, "chosen tile {tile} of row {row}");
                 seen.add_chosen(&old, &new);
             } else {
                 assert!(new == old, "tile {tile} of row {row}");
                 seen.others += 1;
+                seen.good_others += usize::from(old.0 == 0);
             }
         }
+    }
+}
+
+/// In files laid by hand all is a structure's but the tiles, which lie last:
+/// no more is kept from being written to.
+#[test]
+fn structures_end_before_the_tiles() {
+    for (file, tiles) in [(EXAMPLE.to_vec(), 141), (layered(), 267)] {
+        let expected: Vec<bool> = (0..file.len()).map(|place| place < tiles).collect();
+        assert_eq!(structures(&file), expected);
     }
 }
 
@@ -291,17 +345,21 @@ fn damage_stays_in_its_tiles() {
     let mut seen = Seen::default();
     let mut pairs = 0;
     while pairs < PAIRS {
-        let (old, reading, mut tiles) = read_file(&mut random);
-        let Some(choice) = choose(&mut random, &old, &mut tiles) else {
+        let (file, reading, mut tiles) = read_file(&mut random);
+        let Some(choice) = choose(&mut random, &file, &mut tiles) else {
             continue;
         };
-        let mut new = old.clone();
-        write(&mut random, &mut new, &choice.places);
-        let new_reading = Reading::new(&mut random, &new);
+        let damaged = written(&mut random, &file, &choice.places);
+        let new_reading = Reading::new(&mut random, &damaged);
         assert_eq!(new_reading.answer, reading.answer);
         assert!(new_reading.table == reading.table, "tables differ");
-        compare(&mut random, [&old, &new], &reading, &tiles, &mut seen);
-        seen.add_choice(&reading, &tiles, choice.byte);
+        // Bytes that make tiles good are as likely.
+        let mut files = [&file[..], &damaged];
+        if random.one_in(2) {
+            files.reverse();
+        }
+        compare(&mut random, files, &reading, &tiles, &mut seen);
+        seen.add_choice(&reading, &tiles, &choice);
         pairs += 1;
     }
     seen.report();

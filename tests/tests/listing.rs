@@ -1,10 +1,14 @@
 //! The listing by the reference: the rules' example, and the files for the
-//! listing program.
+//! listing programs, as they are stored with these.
+
+use std::fs;
+use std::path::Path;
 
 use xcf_compare::files::EXAMPLE;
 use xcf_compare::files::laid::with;
+use xcf_compare::folder;
 use xcf_compare::list::list;
-use xcf_compare::list_cases::{ListCase, build, expected};
+use xcf_compare::list_cases::{ListCase, arguments, build, expected};
 
 const EXAMPLE_LISTING: &str = "\
 canvas 1 1 base 1 version 0 compression 1 rows 1
@@ -98,6 +102,43 @@ fn marked_tiles_are_there() {
         let counts = given.lines().skip(1).map(|line| &line[line.len() - 1..]);
         assert_eq!(counts.collect::<String>(), marked, "{name}");
     }
+}
+
+/// The names of all that lies in a folder, sorted.
+fn names_in(folder: &Path) -> Vec<String> {
+    let entries = fs::read_dir(folder).unwrap();
+    let mut names: Vec<String> = entries
+        .map(|entry| entry.unwrap().file_name().into_string().unwrap())
+        .collect();
+    names.sort();
+    names
+}
+
+/// The stored files of the program `xcf_list_cases` are what the reference
+/// gives, and no others lie with them.
+#[test]
+fn stored_files_are_the_references() {
+    let folder = folder::of_crate("xcf_list_cases");
+    let data = folder.join("data");
+    let cases = build();
+    let names: Vec<&str> = cases.iter().map(|case| &case.name[..]).collect();
+    assert_eq!(names_in(&data), names);
+    for case in &cases {
+        let stored = fs::read(data.join(&case.name)).unwrap();
+        assert!(stored == case.file, "{}", case.name);
+    }
+    let stored = |name| fs::read_to_string(folder.join(name)).unwrap();
+    assert_eq!(stored("args"), arguments(&cases));
+    assert!(stored("stdout") == expected(&cases));
+}
+
+/// The program `xcf_list` is run with the example.
+#[test]
+fn stored_example() {
+    let folder = folder::of_crate("xcf_list");
+    let stored = |name| fs::read(folder.join(name)).unwrap();
+    assert_eq!(stored("stdin"), EXAMPLE);
+    assert_eq!(stored("stdout"), EXAMPLE_LISTING.as_bytes());
 }
 
 /// The names suit every system, and the files can be kept beside the program.

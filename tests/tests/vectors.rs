@@ -1,14 +1,14 @@
 //! The stored input and output of the program `xcf_vectors`.
 
 use std::fs;
-use std::path::Path;
 
+use xcf_compare::folder;
 use xcf_compare::vectors::build;
 
 /// The program's stored files are what the reference gives.
 #[test]
 fn stored_files_are_the_references() {
-    let folder = Path::new(env!("CARGO_MANIFEST_DIR")).join("../crates/xcf_vectors");
+    let folder = folder::of_crate("xcf_vectors");
     let vectors = build();
     assert!(fs::read(folder.join("stdin")).unwrap() == vectors.input);
     assert!(fs::read_to_string(folder.join("stdout")).unwrap() == vectors.output);

@@ -18,6 +18,7 @@ pub mod LinesLoop
 pub mod PutRoom
 pub mod TilesLoop
 pub mod Usable
+pub mod Refused
 pub mod Answered
 pub mod Encodings
 pub mod Accepts

@@ -49,17 +49,17 @@ mark-small size f r compression t =
 module _ {f : List ℕ} {r : Row} {compression t : ℕ} {s : Frame} (ready : Ready f r compression) (below : t < r .count) (spot : s ≡ frameOf r t) where
   sides-in-range : (1 ≤ s .width) × (s .width ≤ 64) × (1 ≤ s .height) × (s .height ≤ 64)
   sides-in-range =
-      let wide = tile-width (r .width) t (ready .wide .0) in
-      let high = tile-height (r .width) (r .height) t (ready .wide .0) (rw (ready .count) at below) in
+      let wide = tile-width (r .width) t (ready .usable .wide .0) in
+      let high = tile-height (r .width) (r .height) t (ready .usable .wide .0) (rw (ready .usable .count) at below) in
       rw spot (wide .0, wide .1, high .0, high .1)
 
   pub pixels-small : (s .width * s .height ≤ 4096) × (s .width * s .height * r .depth ≤ 16384)
-  pixels-small = small (sides-in-range .1) (sides-in-range .3) (ready .deep .1)
+  pixels-small = small (sides-in-range .1) (sides-in-range .3) (ready .usable .deep .1)
 
   not-refused : {len : ℕ} → len ≡ s .width * s .height * r .depth → decodeRefusal (s .width) (s .height) (r .depth) compression len ≡ 0
   unfolding usableTile decodeRefusal
   not-refused {len} exact =
-      simp (le-leb 1 (s .width) (sides-in-range .0), le-leb (s .width) 64 (sides-in-range .1), le-leb 1 (s .height) (sides-in-range .2), le-leb (s .height) 64 (sides-in-range .3), le-leb 1 (r .depth) (ready .deep .0), le-leb (r .depth) 4 (ready .deep .1), le-leb compression 1 (ready .way), eq-eqb len (s .width * s .height * r .depth) exact)
+      simp (le-leb 1 (s .width) (sides-in-range .0), le-leb (s .width) 64 (sides-in-range .1), le-leb 1 (s .height) (sides-in-range .2), le-leb (s .height) 64 (sides-in-range .3), le-leb 1 (r .depth) (ready .usable .deep .0), le-leb (r .depth) 4 (ready .usable .deep .1), le-leb compression 1 (ready .usable .way), eq-eqb len (s .width * s .height * r .depth) exact)
 
   -- the window that the decoder is lent is not cut yet
   same-tile : {start end : ℕ} → start ≡ pointerAt pointerSize f r t → end ≡ windowEnd pointerSize f r t

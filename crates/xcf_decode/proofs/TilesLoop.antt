@@ -30,12 +30,12 @@ module _ (f : List ℕ) (r : Row) (compression : ℕ) where
   abbrev markOf : ℕ → ℕ
   markOf t = tile pointerSize f r compression t .mark
 
-  abbrev picture : ℕ → List ℕ
-  picture t = tile pointerSize f r compression t .pixels
+  abbrev pixelsAt : ℕ → List ℕ
+  pixelsAt t = tile pointerSize f r compression t .pixels
 
-  picture-length : (t : ℕ) → length (picture t) ≡ tileWidth (r .width) t * tileHeight (r .width) (r .height) t * r .depth
+  pixels-of-length : (t : ℕ) → length (pixelsAt t) ≡ tileWidth (r .width) t * tileHeight (r .width) (r .height) t * r .depth
   unfolding tile
-  picture-length t = pixels-length _ _ _ _ compression
+  pixels-of-length t = pixels-length _ _ _ _ compression
 
 -- the marks of the first t tiles are counted
 pub record Counting (f : List ℕ) (r : Row) (compression : ℕ) (scratch : List ℕ) (t marked : ℕ) : Type 0 where
@@ -46,7 +46,7 @@ pub record Counting (f : List ℕ) (r : Row) (compression : ℕ) (scratch : List
 -- the pixels of the first t tiles are shown, and their marks set
 pub record Going (f : List ℕ) (r : Row) (compression : ℕ) (pixels marks scratch : List ℕ) (t marked : ℕ) : Type 0 where
   pub counting : Counting f r compression scratch t marked
-  pub shown : Shown (picture f r compression) r pixels t
+  pub shown : Shown (pixelsAt f r compression) r pixels t
   pub marksSize : length marks ≡ r .count
   pub marksSet : take t marks ≡ tabulate t 0 (markOf f r compression)
 
@@ -84,7 +84,7 @@ module _ {f : List ℕ} {r : Row} {compression : ℕ} {scratch : List ℕ} {t ma
 
 module _ {f : List ℕ} {r : Row} {compression : ℕ} (ready : Ready f r compression) where
   few : r .count ≤ 65536
-  few = rw (ready .count) (few-tiles (r .width) (r .height) (ready .wide .1) (ready .high .1))
+  few = rw (ready .usable .count) (few-tiles (r .width) (r .height) (ready .usable .wide .1) (ready .usable .high .1))
 
   pub counting-few : {scratch : List ℕ} {t marked : ℕ} → Counting f r compression scratch t marked → (marked ≤ t) × (t ≤ 65536)
   counting-few {t = t} g = (rw (g .count) (nonzero-below t (markOf f r compression)), omega (arith, g .inside, few))
@@ -92,13 +92,13 @@ module _ {f : List ℕ} {r : Row} {compression : ℕ} (ready : Ready f r compres
   module _ {pixels marks scratch : List ℕ} {t marked : ℕ} (g : Going f r compression pixels marks scratch t marked) where
     pub tile-placeable : t < r .count → (n : ℕ) → n ≡ 16384 → Placeable r (frameOf r t) n (length pixels)
     tile-placeable less n size = record {
-      across = frame-across (r .width) t (ready .wide .0);
-      down = frame-down (r .width) (r .height) t (ready .wide .0) (omega (arith, less, ready .count));
+      across = frame-across (r .width) t (ready .usable .wide .0);
+      down = frame-down (r .width) (r .height) t (ready .usable .wide .0) (omega (arith, less, ready .usable .count));
       tile = omega (arith, size, pixels-small ready less refl .1);
       pixels = g .shown .size;
-      wide = ready .wide .1;
-      high = ready .high .1;
-      deep = ready .deep .1;
+      wide = ready .usable .wide .1;
+      high = ready .usable .high .1;
+      deep = ready .usable .deep .1;
     }
 
     pub going-next : t < r .count → {m : ℕ} {new : List ℕ} → Scratched (tile pointerSize f r compression t) m scratch new → {count : ℕ}
@@ -106,7 +106,7 @@ module _ {f : List ℕ} {r : Row} {compression : ℕ} (ready : Ready f r compres
         → Going f r compression (putFrame pixels (r .width) (r .depth) (frameOf r t) new) (set marks t m) new (t + 1) count
     going-next less {m} {new} one next = record {
       counting = next;
-      shown = shown-next new (g .shown) (ready .wide .0) (omega (arith, less, ready .count)) (picture-length f r compression t) (one .pixels);
+      shown = shown-next new (g .shown) (ready .usable .wide .0) (omega (arith, less, ready .usable .count)) (pixels-of-length f r compression t) (one .pixels);
       marksSize = length-set marks t m ∙ g .marksSize;
       marksSet =
           rw (add-one, tabulate-more t 0 (markOf f r compression), zero-add, take-suc-set marks t m (omega (arith, less, g .marksSize)), g .marksSet, one .mark);
@@ -122,7 +122,7 @@ module _ {f : List ℕ} {r : Row} {compression : ℕ} (ready : Ready f r compres
 
       pub going-shown : pixels ≡ rowDecoding pointerSize f r compression .pixels
       unfolding rowDecoding
-      going-shown = shown-all (subst (Shown (picture f r compression) r pixels) (all ∙ ready .count) (g .shown)) (ready .wide .0) (ready .deep .0)
+      going-shown = shown-all (subst (Shown (pixelsAt f r compression) r pixels) (all ∙ ready .usable .count) (g .shown)) (ready .usable .wide .0) (ready .usable .deep .0)
 
       pub going-marked : marks ≡ rowDecoding pointerSize f r compression .marks
       unfolding rowDecoding marksOf

@@ -82,6 +82,10 @@ decoding file table k compression pixels marks =
     let answer = drawableRefusal pointerSize file (length table) r compression (fits r (length pixels) (length marks)) in
     cond (eqb (answer .number) 0) (rowDecoding pointerSize file r compression) (record { answer = answer; pixels = pixels; marks = marks })
 
+-- the numbers that it answers
+abbrev pub decoderNumbers : List ℕ
+decoderNumbers = 0 ∷ 11 ∷ 13 ∷ 14 ∷ 15 ∷ []
+
 -- the same answer with nothing lent for pixels and marks
 unfoldable pub counting : List ℕ → List ℕ → ℕ → ℕ → DecodeAnswer
 counting file table k compression =

@@ -9,17 +9,19 @@ use Rattle.xcf_table.specs.declared.Row.{Row}
 use Rattle.xcf_tile.specs.Grid.{tileSide, tilesAlong, sideOf, tileCount}
 use Rattle.xcf_tile.specs.Tile.{Tile}
 use Rattle.xcf_read.specs.Hierarchy.{pointerSize, tiles}
-use Rattle.xcf_read.specs.Answer.{fileLimit}
 use Rattle.xcf_decode.specs.declared.tile.Frame.{Frame}
 
--- a row that is not refused
-pub record Ready (f : List ℕ) (r : Row) (compression : ℕ) : Type 0 where
+-- a row whose numbers are in range
+pub record Usable (r : Row) (compression : ℕ) : Type 0 where
   pub wide : (1 ≤ r .width) × (r .width ≤ 16384)
   pub high : (1 ≤ r .height) × (r .height ≤ 16384)
   pub deep : (1 ≤ r .depth) × (r .depth ≤ 4)
   pub count : r .count ≡ tileCount (r .width) (r .height)
   pub way : compression ≤ 1
-  pub small : length f ≤ fileLimit
+
+-- and whose tile pointers are right in the file f
+pub record Ready (f : List ℕ) (r : Row) (compression : ℕ) : Type 0 where
+  pub usable : Usable r compression
   pub end : ℕ
   pub pointers : got tt end ≡ run (tiles pointerSize (r .count) 0) f (r .tiles)
 

@@ -23,7 +23,7 @@ use Rattle.xcf_read.specs.Drawable.{side, sideLike, layerType, fields, l
 use Rattle.xcf_read.specs.Image.{baseType, head, pointers, drawables, image}
 use Rattle.xcf_read.specs.Answer.{refusals, listed}
 
-abbrev Numbered : {A : Type 0} → Walk A → Type 0
+abbrev pub Numbered : {A : Type 0} → Walk A → Type 0
 Numbered w = Refuses (λ n. listed refusals n ≡ true) w
 
 numbered-number : (size : ℕ) → Numbered (number size)
@@ -88,7 +88,7 @@ numbered-rest =
     (λ u. refuses-bind _ (numbered-number pointerSize) λ p. refuses-done)
     (λ u. advances-first (number pointerSize) _ (straight-bind _ (straight-number pointerSize) λ p. straight-done) (advances-number pointerSize (omega arith))) tt
 
-numbered-tiles : (size n before : ℕ) → Numbered (tiles size n before)
+pub numbered-tiles : (size n before : ℕ) → Numbered (tiles size n before)
 unfolding tiles listed
 numbered-tiles size zero before = refuses-bind _ refuses-here λ at. refuses-bind _ (numbered-number size) λ p. refuses-must _ 13 at refl
 numbered-tiles size (suc n) before =

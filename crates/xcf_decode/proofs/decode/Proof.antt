@@ -4,7 +4,8 @@ use borrow.Author.Needs.{needs}
 use lib.ListN.{length}
 use Rattle.xcf_read.specs.Hierarchy.{pointerSize}
 use Rattle.xcf_decode.specs.Answer.{rowRefusal}
-use Rattle.xcf_decode.proofs.Usable.{Usable, row-usable, row-ready, fit-lengths}
+use Rattle.xcf_decode.specs.Parts.{Usable}
+use Rattle.xcf_decode.proofs.Usable.{row-usable, row-ready, fit-lengths}
 use Rattle.xcf_decode.proofs.Answered.{decodes-no-row, decodes-no-fit, decodes-no-pointers, decodes-row}
 use Rattle.xcf_decode.proofs.decode.Statement.{statement}
 use Rattle.xcf_decode.proofs.decode.Tie as tie
@@ -13,7 +14,7 @@ use Rattle.xcf_decode.proofs.decode.Tie as tie
 good : (c : tie.Else1) → (let a = c .before .before .before .before .before .before .before .args in rowRefusal pointerSize (length (a .file .now)) (length (a .table .now)) (c .before .before .row-at .result) (a .compression)) ≡ 0
 good c = sym (c .before .row-refusal .ensures) ∙ c .if1 .left
 
-usable : (c : tie.Else1) → (let a = c .before .before .before .before .before .before .before .args in Usable (a .file .now) (c .before .before .row-at .result) (a .compression))
+usable : (c : tie.Else1) → (let a = c .before .before .before .before .before .before .before .args in Usable (c .before .before .row-at .result) (a .compression))
 usable c = row-usable _ (length (c .before .before .before .before .before .before .before .args .table .now)) _ _ (good c)
 
 row-at-requires : tie.Need-row-at-requires
@@ -46,9 +47,10 @@ returns-2 c =
 decode-row-requires : tie.Need-decode-row-requires
 decode-row-requires c κs =
     let walked = c .before .before .before .before in
-    let fit = walked .before in
-    let ready = row-ready (usable (fit .before .before)) (rw (← walked .pointers-refusal .ensures) (c .before .before .if3 .left)) in
-    (ready, fit-lengths _ _ _ (sym (fit .before .fits2 .ensures) ∙ fit .if2 .taken))
+    let fit = walked .before in (
+      row-ready (usable (fit .before .before)) (rw (← walked .pointers-refusal .ensures) (c .before .before .if3 .left)),
+      fit-lengths _ _ _ (sym (fit .before .fits2 .ensures) ∙ fit .if2 .taken),
+    )
 
 same-length : tie.Need-same-length
 same-length c = search needs
