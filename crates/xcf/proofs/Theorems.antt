@@ -20,11 +20,12 @@ use Rattle.xcf_read.proofs.Numbers.{refusals-listed}
 use Rattle.xcf_tile.proofs.Marks.{mark-listed}
 use Rattle.xcf_decode.proofs.PixelLaws.{pixel-byte, one-tile, tile-shown}
 use Rattle.xcf_decode.proofs.Counted.{count-decoded}
+use Rattle.xcf_decode.proofs.Refused.{decoder-listed}
 use Rattle.xcf_decode.proofs.RowDecoded.{row-decoded}
 use Rattle.xcf_decode.proofs.Isolated.{isolated}
 use Rattle.xcf.proofs.ExampleRead.{example-read}
 use Rattle.xcf.proofs.ExampleDamaged.{example-damaged}
-use Rattle.xcf.specs.Statements.{ExamplesHold, PassedBytesDecide, StructureBytesDecide, RefusalsAreListed, AcceptedWithoutFault, ExampleFileIsRead, DamageIsIsolated, ExampleIsDamaged, AcceptedRowsDecode, PixelsAreTheirTiles, EachPixelHasOneTile, TilesAreShown, CountIsTheDecoders, MarksAreListed, ConsumedBytesDecide, ConsumedBytesDecideTheCall, PixelsAreStreams, PixelsAreWhole, MarkedPixelsAreZero, EncodedStreamBounded, StreamReadsBack, TileReadsBack, EncodedTileFits}
+use Rattle.xcf.specs.Statements.{ExamplesHold, PassedBytesDecide, StructureBytesDecide, RefusalsAreListed, AcceptedWithoutFault, ExampleFileIsRead, DamageIsIsolated, ExampleIsDamaged, AcceptedRowsDecode, PixelsAreTheirTiles, EachPixelHasOneTile, TilesAreShown, DecoderRefusalsAreListed, CountIsTheDecoders, MarksAreListed, ConsumedBytesDecide, ConsumedBytesDecideTheCall, PixelsAreStreams, PixelsAreWhole, MarkedPixelsAreZero, EncodedStreamBounded, StreamReadsBack, TileReadsBack, EncodedTileFits}
 
 pub examples-hold : ExamplesHold
 unfolding headOf headAt operationOf operationAt streamFrom streamWithin streamAt streamsAt pixel interleave encodedTile tileIn tileOf leading equalBytes copiedBytes firstSegment segmentsWithin segments written writtenAll encodeStream
@@ -63,6 +64,9 @@ each-pixel-has-one-tile = one-tile
 
 pub tiles-are-shown : TilesAreShown
 tiles-are-shown = tile-shown
+
+pub decoder-refusals-are-listed : DecoderRefusalsAreListed
+decoder-refusals-are-listed = decoder-listed
 
 pub count-is-the-decoders : CountIsTheDecoders
 count-is-the-decoders = count-decoded

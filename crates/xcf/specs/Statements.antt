@@ -18,7 +18,7 @@ use Rattle.xcf_read.specs.Image.{Image, image, structureByte}
 use Rattle.xcf_read.specs.Answer.{fileLimit, refusals, listed, reading}
 use Rattle.xcf_tile.specs.Grid.{tileWidth, tileHeight, tileCount}
 use Rattle.xcf_decode.specs.Pixels.{HasPixel, tileAt, byteOf, byteIn, pixelsOf, shown}
-use Rattle.xcf_decode.specs.Answer.{fits, rowDecoding, decoding, counting}
+use Rattle.xcf_decode.specs.Answer.{fits, decoderNumbers, rowDecoding, decoding, counting}
 use Rattle.xcf_decode.specs.Isolation.{rowOf, Isolation}
 use Rattle.xcf.specs.DamagedExample.{DamagedExample}
 use Rattle.xcf.specs.ExampleFile.{exampleFile, exampleRow}
@@ -68,10 +68,11 @@ ExampleFileIsRead =
 abbrev pub DamageIsIsolated : Type 1
 DamageIsIsolated = Isolation
 
--- It is not empty: a copy of the example file with a byte of its tile's window changed is damaged so, and the tile is good in one file
--- and marked in the other.
+-- It is not empty: a copy of a file of two tiles, with a byte of the first tile's window changed, is damaged so; that tile is good in
+-- one file and marked in the other.
 abbrev pub ExampleIsDamaged : Type 0
-ExampleIsDamaged = (lent : List ℕ) → length lent ≡ tableSize → (pixel mark : ℕ) → DamagedExample lent pixel mark
+ExampleIsDamaged =
+    (lent pixels marks : List ℕ) → length lent ≡ tableSize → length pixels ≡ 65 → length marks ≡ 2 → DamagedExample lent pixels marks
 
 -- The decoder refuses no row of an accepted file, where the lent buffers fit.
 abbrev pub AcceptedRowsDecode : Type 0
@@ -101,6 +102,12 @@ TilesAreShown =
     (tiles : ℕ → List ℕ) (width height depth t : ℕ) → 1 ≤ width → 1 ≤ depth → t < tileCount width height
     → length (tiles t) ≡ tileWidth width t * tileHeight width height t * depth
     → shown width height depth t (pixelsOf tiles width height depth) ≡ tiles t
+
+-- The decoder answers 0, 11, 13, 14 or 15.
+abbrev pub DecoderRefusalsAreListed : Type 0
+DecoderRefusalsAreListed =
+    (file table : List ℕ) (k compression : ℕ) (pixels marks : List ℕ)
+    → listed decoderNumbers (decoding file table k compression pixels marks .answer .number) ≡ true
 
 -- The count of marked tiles that asks for no buffers is the decoder's.
 abbrev pub CountIsTheDecoders : Type 0

@@ -3,7 +3,7 @@
 -- Assumes nothing.
 use Prim.Native.Nat.{ℕ, zero, suc, _+_, _*_, _≤_}
 use mathlib.Core.Path.{_≡_, refl, sym, _∙_}
-use mathlib.Core.List.{List, [], _∷_}
+use mathlib.Core.List.{List}
 use mathlib.Core.Bool.{Bool, true, false, cond, and-eq-true-iff}
 use native.Mathlib.Nat.{mul-le-mul-left}
 use native.Mathlib.Omega.{arith}
@@ -12,7 +12,7 @@ use lib.Dec.{leb, eqb}
 use lib.ListN.{length}
 use Rattle.xcf_walk.specs.Walk.{Outcome, got, refused, Walk, part, run, bytes, here, fileLength, must, _>>=_}
 use Rattle.xcf_walk.specs.Fields.{bigEndian, number}
-use Rattle.xcf_walk.proofs.Walks.{got-not-refused, run-bind}
+use Rattle.xcf_walk.proofs.Walks.{got-not-refused}
 use Rattle.xcf_table.specs.declared.Row.{Row}
 use Rattle.xcf_table.specs.Table.{tableSize, rowAt}
 use Rattle.xcf_tile.specs.Grid.{tileCount}
@@ -86,5 +86,8 @@ module _ (f : List ℕ) (n : ℕ) (r : Row) (compression : ℕ) where
 pub decoder-listed : (file table : List ℕ) (k compression : ℕ) (pixels marks : List ℕ) → listed decoderNumbers (decoding file table k compression pixels marks .answer .number) ≡ true
 unfolding decoding rowDecoding listed
 decoder-listed file table k compression pixels marks =
-    by-cases (λ (d : Decoding). Listed (d .answer)) _ _ _ (λ _. refl)
-    (λ _. drawable-listed file (length table) (rowAt table k) compression (fits (rowAt table k) (length pixels) (length marks)))
+    let r = rowAt table k in
+    let answer = drawableRefusal pointerSize file (length table) r compression (fits r (length pixels) (length marks)) in
+    by-cases (λ (d : Decoding). Listed (d .answer)) (eqb (answer .number) 0) (rowDecoding pointerSize file r compression)
+    (record { answer = answer; pixels = pixels; marks = marks }) (λ _. refl)
+    (λ _. drawable-listed file (length table) r compression (fits r (length pixels) (length marks)))
