@@ -11,8 +11,8 @@ use lib.Dec.{eqb}
 use lib.ListN.{length, getD, replicate}
 use lib.Seq.{getD-set-other}
 use Rattle.xcf_walk.specs.Walk.{got, run, bytes, here, must, fileLength, jump, loop, turns}
-use Rattle.xcf_walk.specs.Fields.{bigEndian, number, word, string}
-use Rattle.xcf_walk.specs.Property.{lengthOk, wordOf, contentOf, payload, isColourMap, content, property, isFloating, lacksMap, allowed, activeType, put, propertyTurn, properties}
+use Rattle.xcf_walk.specs.Fields.{bigEndian, number, word, wordOf, string}
+use Rattle.xcf_walk.specs.Property.{lengthOk, contentOf, payload, isColourMap, content, property, isFloating, lacksMap, allowed, activeType, put, propertyTurn, properties}
 use Rattle.xcf_walk.proofs.Passes.{passes, not-passed}
 use Rattle.xcf_table.specs.Table.{rowSize, tableSize, addRow, rowAt, tableOf}
 use Rattle.xcf_tile.specs.Operation.{headOf, headAt, operationOf, operationAt}

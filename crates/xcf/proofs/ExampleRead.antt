@@ -3,8 +3,8 @@
 use mathlib.Core.Path.{_≡_, refl}
 use borrow.Author.Tests.{eq-eqb}
 use Rattle.xcf_walk.specs.Walk.{got, run, bytes, here, must, fileLength, jump, loop, turns}
-use Rattle.xcf_walk.specs.Fields.{bigEndian, number, word, string}
-use Rattle.xcf_walk.specs.Property.{lengthOk, wordOf, contentOf, payload, isColourMap, content, property, isFloating, lacksMap, allowed, activeType, put, propertyTurn, properties}
+use Rattle.xcf_walk.specs.Fields.{bigEndian, number, word, wordOf, string}
+use Rattle.xcf_walk.specs.Property.{lengthOk, contentOf, payload, isColourMap, content, property, isFloating, lacksMap, allowed, activeType, put, propertyTurn, properties}
 use Rattle.xcf_table.specs.Table.{addRow, tableOf}
 use Rattle.xcf_read.specs.Header.{same, versionIn, header}
 use Rattle.xcf_read.specs.Hierarchy.{pointerSize, agrees, pointer, restTurn, rest, tiles, hierarchy}

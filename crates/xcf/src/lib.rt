@@ -3,7 +3,7 @@ ghost use mathlib.Core.Path.{_≡_};
 ghost use Rattle.xcf_tile.specs.Answer.{Decoded};
 ghost use Rattle.xcf_encode.specs.Answer.{TileEncoded};
 ghost use Rattle.xcf_read.specs.Answer.{Read};
-ghost use Rattle.xcf_decode.specs.Answer.{counting, Decodes};
+ghost use Rattle.xcf_decode.specs.Answer.{counting, DrawableDecoded};
 use xcf_decode::DecodeAnswer;
 use xcf_encode::EncodeAnswer;
 use xcf_read::ReadAnswer;
@@ -27,7 +27,7 @@ pub extern "C" fn xcf_decode(
     pixels: &mut [u8],
     marks: &mut [u8],
 ) -> DecodeAnswer
-    ensures { λ r. ⌜ Decodes (now (file .entry)) (now (table .entry)) row compression (now (pixels .entry)) (now (marks .entry)) r (now (pixels .exit)) (now (marks .exit)) ⌝ }
+    ensures { λ r. ⌜ DrawableDecoded (now (file .entry)) (now (table .entry)) row compression (now (pixels .entry)) (now (marks .entry)) r (now (pixels .exit)) (now (marks .exit)) ⌝ }
 {
     xcf_decode::decode(file, table, row, compression, pixels, marks)
 }

@@ -1,7 +1,7 @@
 -- What acceptance gives the decoder: the file is not too long, its table has the right length, its compression is 0 or 1, and each of
 -- its rows was read as `RowRead` says.
 -- Assumes nothing.
-use Prim.Native.Nat.{ℕ, _+_, _*_, _≤_, _<_}
+use Prim.Native.Nat.{ℕ, _*_, _≤_, _<_}
 use mathlib.Core.Path.{_≡_, _∙_}
 use mathlib.Core.List.{List}
 use native.Mathlib.Omega.{arith}
@@ -10,7 +10,7 @@ use lib.Dec.{leb, eqb}
 use lib.ListN.{length, length-append, length-replicate}
 use Rattle.xcf_walk.specs.Walk.{got}
 use Rattle.xcf_table.specs.Table.{rowSize, tableSize, Rows, rowIn, rowAt, tableOf}
-use Rattle.xcf_table.proofs.Rows.{row-in-front}
+use Rattle.xcf_table.proofs.Rows.{row-in-front, row-there}
 use Rattle.xcf_tile.proofs.Cases.{by-cases}
 use Rattle.xcf_read.specs.Image.{Image, structureByte}
 use Rattle.xcf_read.specs.Answer.{fileLimit, Reading, readingOf, reading}
@@ -34,11 +34,6 @@ sized f lent =
   where
     Says : Reading → Type 0
     Says x = x .answer .number ≡ 0 → (length lent ≡ tableSize) × (length f ≤ fileLimit)
-
--- a row that the table has
-row-there : (table : List ℕ) (k : ℕ) → rowSize * (k + 1) ≤ length table → rowAt table k ≡ rowIn table (rowSize * k)
-unfolding rowAt
-row-there table k within = rw (le-leb _ _ within)
 
 -- the table of rows that are whole and not too many
 module _ (rows : Rows) (few : rows .count ≤ 128) (size : length (rows .numbers) ≡ rowSize * rows .count) where

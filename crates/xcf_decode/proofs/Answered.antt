@@ -13,7 +13,7 @@ use Rattle.xcf_table.specs.declared.Row.{Row}
 use Rattle.xcf_table.specs.Table.{rowAt}
 use Rattle.xcf_read.specs.Hierarchy.{pointerSize, tiles}
 use Rattle.xcf_decode.specs.declared.DecodeAnswer.{DecodeAnswer}
-use Rattle.xcf_decode.specs.Answer.{fits, refusal, pointersRefusal, rowRefusal, drawableRefusal, nonzero, marksOf, Decoding, rowDecoding, decoding, counting, Decodes}
+use Rattle.xcf_decode.specs.Answer.{fits, refusal, pointersRefusal, rowRefusal, drawableRefusal, nonzero, marksOf, Decoding, rowDecoding, decoding, counting, DrawableDecoded}
 
 -- a drawable's refusal
 module _ (f : List ℕ) (n : ℕ) (r : Row) (compression : ℕ) where
@@ -32,30 +32,30 @@ module _ (f : List ℕ) (n : ℕ) (r : Row) (compression : ℕ) where
 
 -- the decoder, of a table whose row k is r
 module _ {f table : List ℕ} {k compression : ℕ} {pixels marks : List ℕ} {r : Row} (row : r ≡ rowAt table k) where
-  decodes-is : {d : Decoding} → decoding f table k compression pixels marks ≡ d → Decodes f table k compression pixels marks (d .answer) (d .pixels) (d .marks)
+  decodes-is : {d : Decoding} → decoding f table k compression pixels marks ≡ d → DrawableDecoded f table k compression pixels marks (d .answer) (d .pixels) (d .marks)
   decodes-is e = record { answer = rw e; pixels = rw e; marks = rw e }
 
   decodes-refused : {a : DecodeAnswer} → drawableRefusal pointerSize f (length table) r compression (fits r (length pixels) (length marks)) ≡ a
-      → (a .number ≡ 0 → ⊥) → Decodes f table k compression pixels marks a pixels marks
+      → (a .number ≡ 0 → ⊥) → DrawableDecoded f table k compression pixels marks a pixels marks
   unfolding decoding
   decodes-refused {a} e bad = decodes-is (rw (← row, e, ne-eqb (a .number) 0 bad))
 
-  pub decodes-no-row : {m : ℕ} → m ≡ rowRefusal pointerSize (length f) (length table) r compression → (m ≡ 0 → ⊥) → Decodes f table k compression pixels marks (refusal m 0) pixels marks
+  pub decodes-no-row : {m : ℕ} → m ≡ rowRefusal pointerSize (length f) (length table) r compression → (m ≡ 0 → ⊥) → DrawableDecoded f table k compression pixels marks (refusal m 0) pixels marks
   decodes-no-row e bad = decodes-refused (by-row f (length table) r compression _ e bad) bad
 
   module _ (good : rowRefusal pointerSize (length f) (length table) r compression ≡ 0) where
-    pub decodes-no-fit : fits r (length pixels) (length marks) ≡ false → Decodes f table k compression pixels marks (refusal 11 0) pixels marks
+    pub decodes-no-fit : fits r (length pixels) (length marks) ≡ false → DrawableDecoded f table k compression pixels marks (refusal 11 0) pixels marks
     decodes-no-fit fit = decodes-refused (rw fit (by-fit f (length table) r compression good)) (λ z. omega (arith, z))
 
     module _ (fit : fits r (length pixels) (length marks) ≡ true) {a : DecodeAnswer} (walk : a ≡ pointersRefusal (run (tiles pointerSize (r .count) 0) f (r .tiles))) where
-      pub decodes-no-pointers : (a .number ≡ 0 → ⊥) → Decodes f table k compression pixels marks a pixels marks
+      pub decodes-no-pointers : (a .number ≡ 0 → ⊥) → DrawableDecoded f table k compression pixels marks a pixels marks
       decodes-no-pointers bad = decodes-refused (rw fit (by-pointers f (length table) r compression good ∙ sym walk)) bad
 
       pub decodes-row : a .number ≡ 0 → {marked : ℕ} {new newMarks : List ℕ}
           → marked ≡ rowDecoding pointerSize f r compression .answer .marked
           → new ≡ rowDecoding pointerSize f r compression .pixels
           → newMarks ≡ rowDecoding pointerSize f r compression .marks
-          → Decodes f table k compression pixels marks (record { number = 0; place = 0; marked = marked }) new newMarks
+          → DrawableDecoded f table k compression pixels marks (record { number = 0; place = 0; marked = marked }) new newMarks
       unfolding decoding rowDecoding
       decodes-row z m p q = rw (m, p, q) (decodes-is (rw (← row, fit, by-pointers f (length table) r compression good, ← walk, eq-eqb _ 0 z)))
 

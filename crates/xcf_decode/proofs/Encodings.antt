@@ -12,7 +12,7 @@ use lib.Seq.{length-take-le, take-take}
 use Rattle.xcf_tile.specs.Tile.{Tile, tileOf}
 use Rattle.xcf_tile.proofs.Consumed.{consumed-decides, consumed-inside}
 use Rattle.xcf_tile.proofs.Pixels.{marked-zero}
-use Rattle.xcf_decode.specs.Isolation.{BeginsWith, Follows}
+use Rattle.xcf_decode.specs.Isolation.{BeginsWith, GoodWhenValid}
 
 module _ (window : List ℕ) (w h depth compression : ℕ) where
   -- the tile of these sizes in some bytes
@@ -47,9 +47,9 @@ module _ (window : List ℕ) (w h depth compression : ℕ) where
       (rw whole (take-take (b .n) (b .n) window (le-refl (b .n)))) in
       (ap (λ (t : Tile). t .mark) same ∙ e .good, ap (λ (t : Tile). t .pixels) same ∙ e .shows)
 
-pub tile-follows : (window : List ℕ) (w h depth compression : ℕ)
-    → Follows window w h depth compression (tileOf window w h depth compression .mark) (tileOf window w h depth compression .pixels)
-tile-follows window w h depth compression = record {
+pub tile-good-when-valid : (window : List ℕ) (w h depth compression : ℕ)
+    → GoodWhenValid window w h depth compression (tileOf window w h depth compression .mark) (tileOf window w h depth compression .pixels)
+tile-good-when-valid window w h depth compression = record {
   good = good-begins window w h depth compression;
   valid = valid-gives window w h depth compression;
   marked = marked-zero window w h depth compression;

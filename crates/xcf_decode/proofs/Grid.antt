@@ -1,6 +1,6 @@
 -- Pixels and their tiles: the tile of a pixel is one of the drawable's (`tile-below`), in the pixel's column and line of tiles
--- (`tile-column`, `tile-line`); tile t stands inside the drawable (`frame-across`, `frame-down`), has sides of 1 to 64 (`tile-width`, `tile-height`), and has the pixels from its
--- corner on (`tile-of-frame`) and no others (`tile-of-pixel`). By arithmetic.
+-- (`tile-column`, `tile-line`); tile t stands inside the drawable (`frame-across`, `frame-down`), has sides of 1 to 64 (`tile-width`,
+-- `tile-height`), and has the pixels from its corner on (`tile-of-frame`) and no others (`tile-of-pixel`). By arithmetic.
 -- Assumes nothing.
 use Prim.Native.Nat.{ℕ, zero, _+_, _-_, _*_, _/_, _%_, _≤_, _<_}
 use mathlib.Core.Path.{_≡_, _∙_, ap}

@@ -15,7 +15,7 @@ use Rattle.xcf_decode.specs.Window.{window, tile}
 use Rattle.xcf_decode.specs.Answer.{rowDecoding}
 use Rattle.xcf_decode.specs.Isolation.{rowOf, Damaged, RowIsolated, Isolation}
 use Rattle.xcf_decode.proofs.TilePointers.{tiles-end}
-use Rattle.xcf_decode.proofs.Encodings.{tile-follows}
+use Rattle.xcf_decode.proofs.Encodings.{tile-good-when-valid}
 use Rattle.xcf_decode.proofs.Accepts.{accepts}
 use Rattle.xcf_decode.proofs.RowDecoded.{row-decoded}
 use Rattle.xcf_decode.proofs.SameBytes.{structure-same, window-byte-same, read-same}
@@ -41,8 +41,8 @@ row-isolated {f} {S} {r} g compression Chosen row windows =
       same = λ t below free.
           let e = tile-same f g r compression t (windows t below free) in
           (after t below .0 ∙ ap (λ (x : Tile). x .mark) e ∙ sym (before t below .0), after t below .1 ∙ ap (λ (x : Tile). x .pixels) e ∙ sym (before t below .1));
-      ruled = λ t below _. after t below;
-      follows = λ t below _. rw (after t below .0, after t below .1) (tile-follows _ _ _ _ _);
+      given = λ t below _. after t below;
+      good = λ t below _. rw (after t below .0, after t below .1) (tile-good-when-valid _ _ _ _ _);
     }
 
 module _ (f g lent : List ℕ) (Chosen : ℕ → ℕ → Type 0) (accepted : reading f lent .answer .number ≡ 0) (damage : Damaged f g (reading f lent) Chosen) where
@@ -52,8 +52,8 @@ module _ (f g lent : List ℕ) (Chosen : ℕ → ℕ → Type 0) (accepted : rea
   windows k row t below free =
       let r = rowOf (reading f lent) k in
       let read = accepts f lent accepted .row k row in
-      let end = tiles-end pointerSize (r .count) 0 f (r .tiles) (read .pointers) in
-      window-same pointerSize f g r (damage .size) (λ i lo hi. structure-same damage i (read .passed i lo (omega (arith, end .0))))
+      let end = tiles-end pointerSize (r .count) 0 f (r .tiles) (read .tiles .pointers) in
+      window-same pointerSize f g r (damage .size) (λ i lo hi. structure-same damage i (read .tiles .passed i lo (omega (arith, end .0))))
       t below (window-byte-same damage k t (record { row = row; tile = below }) free)
 
 pub isolated : Isolation

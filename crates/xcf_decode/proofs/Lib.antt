@@ -11,7 +11,6 @@ pub mod PixelLaws
 pub mod Marked
 pub mod Counted
 pub mod TilePointers
-pub mod Led
 pub mod Cuts
 pub mod OneTile
 pub mod LinesLoop

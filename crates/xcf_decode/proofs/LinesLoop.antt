@@ -3,15 +3,16 @@
 -- from here on gives all that was to be put.
 -- Assumes nothing.
 use Prim.Native.Nat.{ℕ, zero, suc, _+_, _-_, _≤_, _<_}
-use mathlib.Core.Path.{_≡_, refl, sym, _∙_}
-use mathlib.Core.List.{List, _++_, append-assoc, append-nil}
+use mathlib.Core.Path.{_≡_, refl, _∙_}
+use mathlib.Core.List.{List, _++_}
 use native.Mathlib.Omega.{arith}
 use native.Mathlib.Nat.{not-suc-le-zero}
 use native.Mathlib.Numerals.{sub-one}
 use lib.ListN.{length, take, drop, length-drop}
-use lib.Seq.{paste, length-paste, drop-drop, drop-length, length-take-le, take-all, take-take}
-use Rattle.xcf_tile.proofs.Scattering.{one-less}
-use Rattle.xcf_decode.specs.Parts.{putLines, Room}
+use lib.Seq.{paste, length-take-le, take-take}
+use Rattle.xcf_walk.proofs.Tails.{tail-copied}
+use Rattle.xcf_decode.specs.Parts.{putLines, Fits, Room}
+use Rattle.xcf_decode.proofs.PutLines.{first-source, first-target, first-length, others}
 
 pub record Going (start : List ℕ) (at stride : ℕ) (tile : List ℕ) (line n : ℕ) (pixels : List ℕ) (to from rest : ℕ) : Type 0 where
   pub same : length pixels ≡ length start
@@ -36,31 +37,23 @@ pub line-copied : (pixels : List ℕ) (to : ℕ) (tile : List ℕ) (from line : 
 line-copied pixels to tile from line inside fits =
     let taken : from + line - from ≡ line = omega arith in
     let size : length (take line (drop from tile)) ≡ line = length-take-le line (drop from tile) (simp length-drop (omega arith)) in
-    let whole : take (length pixels - to) (drop to pixels) ≡ drop to pixels = take-all (length pixels - to) (drop to pixels) (simp length-drop (omega arith)) in
-    let end : to + (length pixels - to) ≡ length pixels = omega arith in
-    rw (taken, size, whole, take-take line line _ (omega arith), drop-drop, drop-drop, end, drop-length, append-nil)
-    (sym (append-assoc (take to pixels) _ _))
+    rw taken (tail-copied pixels to (take line (drop from tile)) ∙ rw (size, take-take line line _ (omega arith)))
 
 module _ {start : List ℕ} {at stride : ℕ} {tile : List ℕ} {line n : ℕ} {pixels : List ℕ} {to from rest : ℕ} (g : Going start at stride tile line n pixels to from rest) where
-  -- the next line lies in the tile and in the pixels
-  pub next-line : 0 < rest → (from + line ≤ length tile) × (to + line ≤ length pixels)
-  next-line some = (omega (arith, g .room .source, one-less line rest some), omega (arith, g .room .target, one-less stride rest some))
+  module _ (some : 0 < rest) where
+    next-fits : Fits pixels to stride tile from line (suc (rest - 1))
+    next-fits = let e : rest ≡ suc (rest - 1) = omega (arith, some) in rw e at (g .room .fits)
 
-  pub going-line : 0 < rest → Going start at stride tile line n (paste pixels to (drop from tile) line) (to + stride) (from + line) (rest - 1)
-  going-line some =
-      let next = next-line some in
-      let size : length (paste pixels to (drop from tile) line) ≡ length pixels =
-      length-paste pixels to (drop from tile) line (next .1) (simp length-drop (omega (arith, next .0))) in
-      record {
-        same = size ∙ g .same;
-        room = record {
-          source = omega (arith, g .room .source, one-less line rest some);
-          target = omega (arith, g .room .target, one-less stride rest some, size);
-          apart = g .room .apart;
-          small = omega (arith, g .room .small, size);
-        };
-        put = put-next pixels to stride tile from line rest some ∙ g .put;
-      }
+    -- the next line lies in the tile and in the pixels
+    pub next-line : (from + line ≤ length tile) × (to + line ≤ length pixels)
+    next-line = (first-source next-fits, first-target next-fits)
+
+    pub going-line : Going start at stride tile line n (paste pixels to (drop from tile) line) (to + stride) (from + line) (rest - 1)
+    going-line = record {
+      same = first-length next-fits ∙ g .same;
+      room = record { fits = others next-fits; small = omega (arith, g .room .small, first-length next-fits) };
+      put = put-next pixels to stride tile from line rest some ∙ g .put;
+    }
 
   pub going-over : rest ≡ 0 → pixels ≡ putLines start at stride tile 0 line n
   unfolding putLines

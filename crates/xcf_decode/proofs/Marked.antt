@@ -34,11 +34,11 @@ nonzero-first m ms = go (eqb m 0)
     go true = omega arith
     go false = refl
 
-pub nonzero-more : (ms : List ℕ) (m : ℕ) → nonzero (ms ++ (m ∷ [])) ≡ nonzero ms + cond (eqb m 0) 0 1
+nonzero-more : (ms : List ℕ) (m : ℕ) → nonzero (ms ++ (m ∷ [])) ≡ nonzero ms + adds m
 nonzero-more [] m = nonzero-first m []
 nonzero-more (a ∷ ms) m = omega (arith, nonzero-first a (ms ++ (m ∷ [])), nonzero-first a ms, nonzero-more ms m)
 
-pub nonzero-few : (ms : List ℕ) → nonzero ms ≤ length ms
+nonzero-few : (ms : List ℕ) → nonzero ms ≤ length ms
 unfolding nonzero
 nonzero-few [] = omega arith
 nonzero-few (m ∷ ms) = omega (arith, nonzero-first m ms, adds-few m, nonzero-few ms)

@@ -1,5 +1,5 @@
 -- Tile t of a row that is not refused. The pointers lie in the file (`pointers-inside`), and the tile's pixels in a scratch
--- (`pixels-small`), so that its decoding is not refused (`not-refused`); what it gives is the tile's (`scratched`).
+-- (`pixels-small`), so that its decoding is not refused (`tile-not-refused`); what it gives is the tile's (`scratched`).
 -- Assumes nothing.
 use Prim.Native.Nat.{ℕ, _+_, _-_, _*_, _≤_, _<_}
 use mathlib.Core.Path.{_≡_, ap, sym, _∙_}
@@ -15,7 +15,7 @@ use Rattle.xcf_tile.specs.declared.TileAnswer.{TileAnswer}
 use Rattle.xcf_tile.specs.Grid.{tileWidth, tileHeight}
 use Rattle.xcf_tile.specs.Tile.{tileOf}
 use Rattle.xcf_tile.specs.Answer.{usableTile, decodeRefusal, decodeAnswer, decodePixels, Decoded}
-use Rattle.xcf_tile.proofs.Sizes.{small}
+use Rattle.xcf_tile.proofs.Sizes.{bounds-within, small}
 use Rattle.xcf_tile.proofs.Pixels.{pixels-length}
 use Rattle.xcf_tile.proofs.Marks.{Listed, mark-listed}
 use Rattle.xcf_read.specs.Hierarchy.{pointerSize}
@@ -24,12 +24,10 @@ use Rattle.xcf_decode.specs.Window.{pointerAt, windowEnd, windowLength, 
 use Rattle.xcf_decode.specs.Parts.{Ready, frameOf, Scratched}
 use Rattle.xcf_decode.proofs.Cuts.{cut-same}
 use Rattle.xcf_decode.proofs.Grid.{tile-width, tile-height}
-use Rattle.xcf_decode.proofs.TilePointers.{tiles-end}
+use Rattle.xcf_decode.proofs.TilePointers.{tiles-inside}
 
 pub pointers-inside : {f : List ℕ} {r : Row} {compression : ℕ} → Ready f r compression → r .tiles + pointerSize * (r .count + 1) ≤ length f
-pointers-inside {f} {r} ready =
-    let e = tiles-end pointerSize (r .count) 0 f (r .tiles) (ready .pointers) in
-    omega (arith, e .0, e .1)
+pointers-inside {f} {r} ready = tiles-inside pointerSize (r .count) 0 f (r .tiles) (ready .pointers)
 
 -- what the decoding of a tile gives where it is not refused
 decoded-gives : {ws : List ℕ} {w h depth compression : ℕ} {old new : List ℕ} {a : TileAnswer}
@@ -46,20 +44,20 @@ unfolding tile
 mark-small size f r compression t =
     listed-small (mark-listed (window size f r t) (tileWidth (r .width) t) (tileHeight (r .width) (r .height) t) (r .depth) compression)
 
-module _ {f : List ℕ} {r : Row} {compression t : ℕ} {s : Frame} (ready : Ready f r compression) (below : t < r .count) (spot : s ≡ frameOf r t) where
-  sides-in-range : (1 ≤ s .width) × (s .width ≤ 64) × (1 ≤ s .height) × (s .height ≤ 64)
-  sides-in-range =
-      let wide = tile-width (r .width) t (ready .usable .wide .0) in
-      let high = tile-height (r .width) (r .height) t (ready .usable .wide .0) (rw (ready .usable .count) at below) in
-      rw spot (wide .0, wide .1, high .0, high .1)
+module _ {f : List ℕ} {r : Row} {compression t : ℕ} {s : Frame} (ready : Ready f r compression) (below : t < r .count) (frame : s ≡ frameOf r t) where
+  width-in-range : (1 ≤ s .width) × (s .width ≤ 64)
+  width-in-range = rw frame (tile-width (r .width) t (ready .usable .wide .0))
+
+  height-in-range : (1 ≤ s .height) × (s .height ≤ 64)
+  height-in-range = rw frame (tile-height (r .width) (r .height) t (ready .usable .wide .0) (rw (ready .usable .count) at below))
 
   pub pixels-small : (s .width * s .height ≤ 4096) × (s .width * s .height * r .depth ≤ 16384)
-  pixels-small = small (sides-in-range .1) (sides-in-range .3) (ready .usable .deep .1)
+  pixels-small = small (width-in-range .1) (height-in-range .1) (ready .usable .deep .1)
 
-  not-refused : {len : ℕ} → len ≡ s .width * s .height * r .depth → decodeRefusal (s .width) (s .height) (r .depth) compression len ≡ 0
+  tile-not-refused : {len : ℕ} → len ≡ s .width * s .height * r .depth → decodeRefusal (s .width) (s .height) (r .depth) compression len ≡ 0
   unfolding usableTile decodeRefusal
-  not-refused {len} exact =
-      simp (le-leb 1 (s .width) (sides-in-range .0), le-leb (s .width) 64 (sides-in-range .1), le-leb 1 (s .height) (sides-in-range .2), le-leb (s .height) 64 (sides-in-range .3), le-leb 1 (r .depth) (ready .usable .deep .0), le-leb (r .depth) 4 (ready .usable .deep .1), le-leb compression 1 (ready .usable .way), eq-eqb len (s .width * s .height * r .depth) exact)
+  tile-not-refused {len} exact =
+      rw (bounds-within 1 64 (s .width) width-in-range, bounds-within 1 64 (s .height) height-in-range, bounds-within 1 4 (r .depth) (ready .usable .deep), le-leb compression 1 (ready .usable .way), eq-eqb len (s .width * s .height * r .depth) exact)
 
   -- the window that the decoder is lent is not cut yet
   same-tile : {start end : ℕ} → start ≡ pointerAt pointerSize f r t → end ≡ windowEnd pointerSize f r t
@@ -67,7 +65,7 @@ module _ {f : List ℕ} {r : Row} {compression t : ℕ} {s : Frame} (ready : Rea
   unfolding tile window windowLength
   same-tile from to =
       let first = pointerAt pointerSize f r t in
-      rw (from, to, spot) (sym (cut-same f first (windowEnd pointerSize f r t - first) (tileWidth (r .width) t) (tileHeight (r .width) (r .height) t) (r .depth) compression))
+      rw (from, to, frame) (sym (cut-same f first (windowEnd pointerSize f r t - first) (tileWidth (r .width) t) (tileHeight (r .width) (r .height) t) (r .depth) compression))
 
   pub scratched : {start end : ℕ} {scratch new : List ℕ} {a : TileAnswer} → start ≡ pointerAt pointerSize f r t → end ≡ windowEnd pointerSize f r t
       → length scratch ≡ 16384 → Decoded (part f start (end - start)) (s .width) (s .height) (r .depth) compression (take (s .width * s .height * r .depth) scratch) a new
@@ -75,7 +73,7 @@ module _ {f : List ℕ} {r : Row} {compression t : ℕ} {s : Frame} (ready : Rea
   scratched {start} {end} {scratch} {new} from to room d =
       let size = s .width * s .height * r .depth in
       let exact = length-take-le size scratch (omega (arith, pixels-small .1, room)) in
-      let g = decoded-gives (not-refused exact) d in
+      let g = decoded-gives (tile-not-refused exact) d in
       let same = same-tile from to in
       let pixels = g .1 ∙ ap (λ x. x .pixels) same in
       let whole = ap length (g .1) ∙ pixels-length (part f start (end - start)) (s .width) (s .height) (r .depth) compression in

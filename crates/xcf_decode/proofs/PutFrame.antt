@@ -1,5 +1,6 @@
--- A tile put at its frame's place in the pixels: the length stays (`putFrame-length`), a pixel of the frame is the tile's
--- (`putFrame-inside`), and any other pixel stays (`putFrame-outside`), since a byte in a line of the frame is a byte of a pixel there.
+-- A tile put at its frame's place in the pixels: its lines fit there (`frame-fits`), the length stays (`putFrame-length`), a pixel of
+-- the frame is the tile's (`putFrame-inside`), and any other pixel stays (`putFrame-outside`), since a byte in a line of the frame is
+-- a byte of a pixel there.
 -- Assumes nothing.
 use Prim.Native.Nat.{ℕ, _+_, _-_, _*_, _≤_, _<_}
 use mathlib.Core.Path.{_≡_, ap}
@@ -7,18 +8,12 @@ use mathlib.Core.List.{List}
 use native.Mathlib.Omega.{arith}
 use native.Mathlib.Nat.{mul-le-mul-left, lt-of-mul-lt-mul-left}
 use lib.ListN.{length, getD}
+use Rattle.xcf_table.specs.declared.Row.{Row}
 use Rattle.xcf_tile.specs.Grid.{tileSide}
 use Rattle.xcf_decode.specs.declared.tile.Frame.{Frame}
 use Rattle.xcf_decode.specs.Pixels.{byteOf}
-use Rattle.xcf_decode.specs.Parts.{putFrame}
-use Rattle.xcf_decode.proofs.PutLines.{Fits, putLines-length, putLines-inside, putLines-outside}
-
--- the frame lies in the drawable, whose pixels and the tile's are there: `Placeable`, with no limits on the sides
-pub record Framed (pixels : List ℕ) (w h d : ℕ) (s : Frame) (tile : List ℕ) : Type 0 where
-  pub across : tileSide * s .column + s .width ≤ w
-  pub down : tileSide * s .line + s .height ≤ h
-  pub source : s .width * s .height * d ≤ length tile
-  pub target : length pixels ≡ w * h * d
+use Rattle.xcf_decode.specs.Parts.{putFrame, Fits, Framed}
+use Rattle.xcf_decode.proofs.PutLines.{putLines-length, putLines-inside, putLines-outside}
 
 -- a whole number of units is at most another with a part of a unit
 whole-le : (unit a b part : ℕ) → part < unit → unit * a ≤ unit * b + part → a ≤ b
@@ -38,19 +33,25 @@ module _ (w d x y k : ℕ) (wide : x < w) (deep : k < d) (column line width : �
       let same : w * y ≡ w * line = ap (λ n. w * n) e in
       (e, omega (arith, from, same), omega (arith, below, same))
 
-module _ {pixels : List ℕ} {w h d : ℕ} {s : Frame} {tile : List ℕ} (f : Framed pixels w h d s tile) where
+module _ {r : Row} {s : Frame} (tile pixels : List ℕ) (f : Framed r s (length tile) (length pixels)) where
+  abbrev w : ℕ
+  w = r .width
+
+  abbrev d : ℕ
+  d = r .depth
+
   abbrev corner : ℕ
   corner = d * (tileSide * (w * s .line + s .column))
 
-  fits : Fits pixels corner (d * w) tile 0 (d * s .width) (s .height)
-  fits = record {
+  pub frame-fits : Fits pixels corner (d * w) tile 0 (d * s .width) (s .height)
+  frame-fits = record {
     source = omega (arith, f .source);
     target = omega (arith, f .target, mul-le-mul-left d (f .across), mul-le-mul-left d (mul-le-mul-left w (f .down)));
   }
 
   pub putFrame-length : length (putFrame pixels w d s tile) ≡ length pixels
   unfolding putFrame
-  putFrame-length = putLines-length (d * w) tile (d * s .width) pixels corner 0 (s .height) fits
+  putFrame-length = putLines-length (d * w) tile (d * s .width) pixels corner 0 (s .height) frame-fits
 
   -- pixel (px, py) of the frame
   pub putFrame-inside : (px py k : ℕ) → px < s .width → py < s .height → k < d
@@ -61,7 +62,7 @@ module _ {pixels : List ℕ} {w h d : ℕ} {s : Frame} {tile : List ℕ} (f : Fr
       let place : byteOf w d (tileSide * s .column + px) (tileSide * s .line + py) k ≡ corner + d * w * py + (d * px + k) = omega arith in
       let origin : d * (py * s .width + px) + k ≡ 0 + d * s .width * py + (d * px + k) = omega arith in
       rw (place, origin)
-      (putLines-inside (d * w) tile (d * s .width) (omega (arith, mul-le-mul-left d (f .across))) pixels corner 0 (s .height) fits py (d * px + k) high
+      (putLines-inside (d * w) tile (d * s .width) (omega (arith, mul-le-mul-left d (f .across))) pixels corner 0 (s .height) frame-fits py (d * px + k) high
       (omega (arith, deep, mul-le-mul-left d wide)))
 
   pub putFrame-outside : (x y k : ℕ) → x < w → k < d
@@ -69,7 +70,7 @@ module _ {pixels : List ℕ} {w h d : ℕ} {s : Frame} {tile : List ℕ} (f : Fr
       → getD (putFrame pixels w d s tile) (byteOf w d x y k) 0 ≡ getD pixels (byteOf w d x y k) 0
   unfolding putFrame
   putFrame-outside x y k wide deep out =
-      putLines-outside (d * w) tile (d * s .width) pixels corner 0 (s .height) fits (byteOf w d x y k) none
+      putLines-outside (d * w) tile (d * s .width) pixels corner 0 (s .height) frame-fits (byteOf w d x y k) none
     where
       none : (j : ℕ) → j < s .height → corner + d * w * j ≤ byteOf w d x y k → byteOf w d x y k < corner + d * w * j + d * s .width → ⊥
       none j below low high =

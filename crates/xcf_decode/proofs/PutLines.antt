@@ -7,34 +7,32 @@ use mathlib.Core.List.{List}
 use native.Mathlib.Omega.{arith}
 use lib.ListN.{length, getD, drop, length-drop}
 use lib.Seq.{paste, length-paste, getD-drop}
-use Rattle.xcf_decode.specs.Parts.{putLines}
+use Rattle.xcf_decode.specs.Parts.{putLines, Fits}
 use Rattle.xcf_decode.proofs.Pasted.{getD-paste-inside, getD-paste-outside}
 
--- the tile has n lines, and the pixels have room for them: `Room`, with no limit on the length
-pub record Fits (pixels : List ℕ) (to stride : ℕ) (tile : List ℕ) (from line n : ℕ) : Type 0 where
-  pub source : from + line * n ≤ length tile
-  pub target : to + stride * n + line ≤ length pixels + stride
+-- the first line lies in the tile and in the pixels (`first-source`, `first-target`), and with it in, the others fit (`others`)
+module _ {pixels : List ℕ} {to stride : ℕ} {tile : List ℕ} {from line n : ℕ} (h : Fits pixels to stride tile from line (suc n)) where
+  pub first-source : from + line ≤ length tile
+  first-source = omega (arith, h .source)
+
+  pub first-target : to + line ≤ length pixels
+  first-target = omega (arith, h .target)
+
+  first-there : line ≤ length (drop from tile)
+  first-there = omega (arith, first-source, length-drop from tile)
+
+  pub first-length : length (paste pixels to (drop from tile) line) ≡ length pixels
+  first-length = length-paste pixels to (drop from tile) line first-target first-there
+
+  pub others : Fits (paste pixels to (drop from tile) line) (to + stride) stride tile (from + line) line n
+  others = record { source = omega (arith, h .source); target = omega (arith, h .target, first-length) }
 
 module _ (stride : ℕ) (tile : List ℕ) (line : ℕ) where
-  -- the first line fits, and with it in, so do the others
-  module _ (pixels : List ℕ) (to from n : ℕ) (h : Fits pixels to stride tile from line (suc n)) where
-    first-target : to + line ≤ length pixels
-    first-target = omega (arith, h .target)
-
-    first-source : line ≤ length (drop from tile)
-    first-source = omega (arith, h .source, length-drop from tile)
-
-    first-length : length (paste pixels to (drop from tile) line) ≡ length pixels
-    first-length = length-paste pixels to (drop from tile) line first-target first-source
-
-    others : Fits (paste pixels to (drop from tile) line) (to + stride) stride tile (from + line) line n
-    others = record { source = omega (arith, h .source); target = omega (arith, h .target, first-length) }
-
   pub putLines-length : (pixels : List ℕ) (to from n : ℕ) → Fits pixels to stride tile from line n
       → length (putLines pixels to stride tile from line n) ≡ length pixels
   unfolding putLines
   putLines-length pixels to from zero h = refl
-  putLines-length pixels to from (suc n) h = putLines-length _ (to + stride) (from + line) n (others pixels to from n h) ∙ first-length pixels to from n h
+  putLines-length pixels to from (suc n) h = putLines-length _ (to + stride) (from + line) n (others h) ∙ first-length h
 
   pub putLines-outside : (pixels : List ℕ) (to from n : ℕ) → Fits pixels to stride tile from line n
       → (i : ℕ) → ((j : ℕ) → j < n → to + stride * j ≤ i → i < to + stride * j + line → ⊥)
@@ -42,9 +40,9 @@ module _ (stride : ℕ) (tile : List ℕ) (line : ℕ) where
   unfolding putLines
   putLines-outside pixels to from zero h i out = refl
   putLines-outside pixels to from (suc n) h i out =
-      putLines-outside _ (to + stride) (from + line) n (others pixels to from n h) i
+      putLines-outside _ (to + stride) (from + line) n (others h) i
       (λ j below low high. out (suc j) (omega (arith, below)) (omega (arith, low)) (omega (arith, high)))
-      ∙ getD-paste-outside pixels to (drop from tile) line (omega (arith, first-target pixels to from n h)) (first-source pixels to from n h) i
+      ∙ getD-paste-outside pixels to (drop from tile) line (omega (arith, first-target h)) (first-there h) i
       (λ low high. out 0 (omega arith) (omega (arith, low)) (omega (arith, high)))
 
   pub putLines-inside : line ≤ stride → (pixels : List ℕ) (to from n : ℕ) → Fits pixels to stride tile from line n
@@ -56,10 +54,10 @@ module _ (stride : ℕ) (tile : List ℕ) (line : ℕ) where
       let place : to + stride * 0 + b ≡ to + b = omega arith in
       let origin : from + line * 0 + b ≡ from + b = omega arith in
       rw (place, origin)
-      (putLines-outside _ (to + stride) (from + line) n (others pixels to from n h) (to + b) (λ j _ low _. omega (arith, low, within, apart))
-      ∙ getD-paste-inside pixels to (drop from tile) line (omega (arith, first-target pixels to from n h)) (first-source pixels to from n h) b within
+      (putLines-outside _ (to + stride) (from + line) n (others h) (to + b) (λ j _ low _. omega (arith, low, within, apart))
+      ∙ getD-paste-inside pixels to (drop from tile) line (omega (arith, first-target h)) (first-there h) b within
       ∙ getD-drop from tile b 0)
   putLines-inside apart pixels to from (suc n) h (suc j) b below within =
       let place : to + stride * suc j + b ≡ to + stride + stride * j + b = omega arith in
       let origin : from + line * suc j + b ≡ from + line + line * j + b = omega arith in
-      rw (place, origin) (putLines-inside apart _ (to + stride) (from + line) n (others pixels to from n h) j b (omega (arith, below)) within)
+      rw (place, origin) (putLines-inside apart _ (to + stride) (from + line) n (others h) j b (omega (arith, below)) within)

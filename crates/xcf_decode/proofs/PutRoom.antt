@@ -10,6 +10,7 @@ use Rattle.xcf_table.specs.declared.Row.{Row}
 use Rattle.xcf_tile.specs.Grid.{tileSide}
 use Rattle.xcf_decode.specs.declared.tile.Frame.{Frame}
 use Rattle.xcf_decode.specs.Parts.{Room, Placeable}
+use Rattle.xcf_decode.proofs.PutFrame.{frame-fits}
 
 -- the frame's corner, in pixels and in bytes; a line of the frame and one of the drawable, in bytes
 pub record Small (r : Row) (s : Frame) : Type 0 where
@@ -20,29 +21,23 @@ pub record Small (r : Row) (s : Frame) : Type 0 where
   pub stride : r .depth * r .width ≤ 65536
 
 module _ {r : Row} {s : Frame} {tileLength pixelsLength : ℕ} (p : Placeable r s tileLength pixelsLength) where
-  -- the pixels before the corner, and one line of the drawable more than the frame has
-  before-frame : r .width * (tileSide * s .line + s .height) + (tileSide * s .column + s .width) ≤ r .width * r .height + r .width
-  before-frame = omega (arith, mul-le-mul-left (r .width) (p .down), p .across)
-
   area : r .width * r .height ≤ 268435456
   area = mul-le-mul (p .wide) (p .high)
 
   pub frame-small : Small r s
   frame-small =
-      let corner : tileSide * (r .width * s .line + s .column) ≤ 268451840 = omega (arith, mul-le-mul-left (r .width) (p .down), p .across, area, p .wide) in
+      let corner : tileSide * (r .width * s .line + s .column) ≤ 268451840 = omega (arith, mul-le-mul-left (r .width) (p .framed .down), p .framed .across, area, p .wide) in
       record {
         above = omega (arith, corner);
         corner = corner;
         place = mul-le-mul (p .deep) corner;
-        line = omega (arith, mul-le-mul (p .deep) (let e : s .width ≤ 16384 = omega (arith, p .across, p .wide) in e));
+        line = omega (arith, mul-le-mul (p .deep) (let e : s .width ≤ 16384 = omega (arith, p .framed .across, p .wide) in e));
         stride = mul-le-mul (p .deep) (p .wide);
       }
 
 pub frame-room : {r : Row} {s : Frame} (tile pixels : List ℕ) → Placeable r s (length tile) (length pixels)
     → Room pixels (r .depth * (tileSide * (r .width * s .line + s .column))) (r .depth * r .width) tile 0 (r .depth * s .width) (s .height)
 frame-room {r} {s} tile pixels p = record {
-  source = omega (arith, p .tile);
-  target = omega (arith, p .pixels, mul-le-mul-left (r .depth) (before-frame p));
-  apart = mul-le-mul-left (r .depth) (let e : s .width ≤ r .width = omega (arith, p .across) in e);
-  small = omega (arith, p .pixels, mul-le-mul (area p) (p .deep), frame-small p .stride);
+  fits = frame-fits tile pixels (p .framed);
+  small = omega (arith, p .framed .target, mul-le-mul (area p) (p .deep), frame-small p .stride);
 }

@@ -1,37 +1,31 @@
 -- A drawable of an accepted file is decoded and not refused, given buffers that fit: its row passes every test of the decoder.
 -- Assumes nothing.
-use Prim.Native.Nat.{ℕ, _+_, _*_, _≤_, _<_}
+use Prim.Native.Nat.{ℕ, _≤_, _<_}
 use mathlib.Core.Path.{_≡_}
 use mathlib.Core.List.{List}
 use mathlib.Core.Bool.{true}
-use native.Mathlib.Omega.{arith}
 use borrow.Author.Tests.{le-leb, eq-eqb}
 use lib.ListN.{length}
 use Rattle.xcf_table.specs.declared.Row.{Row}
 use Rattle.xcf_table.specs.Table.{tableSize}
-use Rattle.xcf_tile.specs.Answer.{within}
+use Rattle.xcf_tile.proofs.Sizes.{bounds-within}
 use Rattle.xcf_read.specs.Hierarchy.{pointerSize}
 use Rattle.xcf_read.specs.Answer.{fileLimit, reading}
 use Rattle.xcf_read.proofs.AcceptedRows.{RowRead}
 use Rattle.xcf_decode.specs.Isolation.{rowOf}
 use Rattle.xcf_decode.specs.Answer.{inRange, inFile, usableRow, fits, refusal, rowRefusal, drawableRefusal, rowDecoding, decoding}
-use Rattle.xcf_decode.proofs.TilePointers.{tiles-end}
+use Rattle.xcf_decode.proofs.TilePointers.{tiles-inside}
 use Rattle.xcf_decode.proofs.Accepts.{accepts}
-
-lies-within : (low high x : ℕ) → (low ≤ x) × (x ≤ high) → within low high x ≡ true
-lies-within low high x h = rw (le-leb _ _ (h .0), le-leb _ _ (h .1))
 
 -- a row that was read passes the tests of a row
 module _ {f : List ℕ} {S : ℕ → Type 0} {r : Row} (row : RowRead f S r) where
   in-range : inRange r ≡ true
   unfolding inRange
-  in-range = rw (lies-within _ _ _ (row .kind), lies-within _ _ _ (row .width), lies-within _ _ _ (row .height), lies-within _ _ _ (row .depth))
+  in-range = rw (bounds-within _ _ _ (row .kind), bounds-within _ _ _ (row .width), bounds-within _ _ _ (row .height), bounds-within _ _ _ (row .depth))
 
   in-file : inFile pointerSize (length f) r ≡ true
   unfolding inFile
-  in-file =
-      let e = tiles-end pointerSize (r .count) 0 f (r .tiles) (row .pointers) in
-      rw (eq-eqb _ _ (row .count), le-leb (r .tiles + pointerSize * (r .count + 1)) (length f) (omega (arith, e .0, e .1)))
+  in-file = rw (eq-eqb _ _ (row .count), le-leb _ _ (tiles-inside pointerSize (r .count) 0 f (r .tiles) (row .tiles .pointers)))
 
   usable : (compression : ℕ) → compression ≤ 1 → usableRow pointerSize (length f) r compression ≡ true
   unfolding usableRow
@@ -39,13 +33,13 @@ module _ {f : List ℕ} {S : ℕ → Type 0} {r : Row} (row : RowRead f S r) whe
 
   -- and is not refused for its file, its table or its pointers
   module _ (table compression : ℕ) (small : length f ≤ fileLimit) (size : table ≡ tableSize) (way : compression ≤ 1) where
-    not-refused : rowRefusal pointerSize (length f) table r compression ≡ 0
+    row-not-refused : rowRefusal pointerSize (length f) table r compression ≡ 0
     unfolding rowRefusal
-    not-refused = rw (eq-eqb _ _ size, le-leb _ _ small, usable compression way)
+    row-not-refused = rw (eq-eqb _ _ size, le-leb _ _ small, usable compression way)
 
     decodable : drawableRefusal pointerSize f table r compression true ≡ refusal 0 0
     unfolding drawableRefusal
-    decodable = rw (not-refused, ← row .pointers)
+    decodable = rw (row-not-refused, ← row .tiles .pointers)
 
 pub row-decoded : (f lent : List ℕ) → reading f lent .answer .number ≡ 0 → (k : ℕ) → k < reading f lent .answer .rows → (pixels marks : List ℕ)
     → fits (rowOf (reading f lent) k) (length pixels) (length marks) ≡ true

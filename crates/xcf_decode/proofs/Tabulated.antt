@@ -20,14 +20,6 @@ tabulate-entry (suc n) i f zero h = rw add-zero
 tabulate-entry (suc n) i f (suc k) h =
     let e : i + 1 + k ≡ i + suc k = omega arith in tabulate-entry n (i + 1) f k (omega (arith, h)) ∙ ap f e
 
--- the same entries make the same list
-pub tabulate-same : (n i : ℕ) (f g : ℕ → ℕ) → ((k : ℕ) → k < n → f (i + k) ≡ g (i + k)) → tabulate n i f ≡ tabulate n i g
-unfolding tabulate
-tabulate-same zero i f g h = refl
-tabulate-same (suc n) i f g h =
-    let first : f i ≡ g i = rw add-zero at (h 0 (omega arith)) in
-    rw first (ap (λ (l : List ℕ). g i ∷ l) (tabulate-same n (i + 1) f g (λ k below. let e : i + 1 + k ≡ i + suc k = omega arith in rw e (h (suc k) (omega (arith, below))))))
-
 pub tabulate-more : (n i : ℕ) (f : ℕ → ℕ) → tabulate (suc n) i f ≡ tabulate n i f ++ (f (i + n) ∷ [])
 unfolding tabulate
 tabulate-more zero i f = rw add-zero

@@ -1,5 +1,6 @@
--- A walk over tile pointers that was taken: where it ends (`tiles-end`), and that its pointers rise and stay below the file's length
--- (`tiles-rise`, `tiles-above`), so that every window lies in the file (`window-inside`). By induction over the tiles.
+-- A walk over tile pointers that was taken: where it ends (`tiles-end`), so that they and the closing word lie in the file
+-- (`tiles-inside`); that each pointer is below the file's length (`tiles-below`) and the next pointer (`tiles-rise`), so that every
+-- window lies in the file (`window-inside`). By induction over the tiles.
 -- Assumes nothing.
 use Prim.Native.Nat.{ℕ, zero, suc, _+_, _*_, _≤_, _<_}
 use mathlib.Core.Path.{_≡_, _∙_}
@@ -53,28 +54,31 @@ tiles-end size (suc n) before f at e =
     let r = tiles-end size n _ f (at + size) (passed size n before f at e .rest) in
     (omega (arith, r .0), r .1)
 
-pub tiles-rise : (size n before : ℕ) (f : List ℕ) (at : ℕ) {q : ℕ} → got tt q ≡ run (tiles size n before) f at
+pub tiles-inside : (size n before : ℕ) (f : List ℕ) (at : ℕ) {q : ℕ} → got tt q ≡ run (tiles size n before) f at → at + size * (n + 1) ≤ length f
+tiles-inside size n before f at e = let end = tiles-end size n before f at e in omega (arith, end .0, end .1)
+
+tiles-below : (size n before : ℕ) (f : List ℕ) (at : ℕ) {q : ℕ} → got tt q ≡ run (tiles size n before) f at
     → (t : ℕ) → t < n → bigEndian 0 (part f (at + size * t) size) < length f
-tiles-rise size zero before f at e t below = absurd (omega arith)
-tiles-rise size (suc n) before f at e zero below =
+tiles-below size zero before f at e t below = absurd (omega arith)
+tiles-below size (suc n) before f at e zero below =
     let first : at + size * 0 ≡ at = omega arith in
     rw first (passed size n before f at e .below)
-tiles-rise size (suc n) before f at e (suc t) below =
+tiles-below size (suc n) before f at e (suc t) below =
     let next : at + size * suc t ≡ at + size + size * t = omega arith in
-    rw next (tiles-rise size n _ f (at + size) (passed size n before f at e .rest) t (omega arith))
+    rw next (tiles-below size n _ f (at + size) (passed size n before f at e .rest) t (omega arith))
 
-pub tiles-above : (size n before : ℕ) (f : List ℕ) (at : ℕ) {q : ℕ} → got tt q ≡ run (tiles size n before) f at
+tiles-rise : (size n before : ℕ) (f : List ℕ) (at : ℕ) {q : ℕ} → got tt q ≡ run (tiles size n before) f at
     → (t : ℕ) → t + 1 < n → bigEndian 0 (part f (at + size * t) size) < bigEndian 0 (part f (at + size * (t + 1)) size)
-tiles-above size zero before f at e t below = absurd (omega arith)
-tiles-above size (suc zero) before f at e zero below = absurd (omega arith)
-tiles-above size (suc (suc n)) before f at e zero below =
+tiles-rise size zero before f at e t below = absurd (omega arith)
+tiles-rise size (suc zero) before f at e zero below = absurd (omega arith)
+tiles-rise size (suc (suc n)) before f at e zero below =
     let first : at + size * 0 ≡ at = omega arith in
     let second : at + size * (0 + 1) ≡ at + size = omega arith in
     rw (first, second) (passed size n _ f (at + size) (passed size (suc n) before f at e .rest) .above)
-tiles-above size (suc n) before f at e (suc t) below =
+tiles-rise size (suc n) before f at e (suc t) below =
     let next : at + size * suc t ≡ at + size + size * t = omega arith in
     let after : at + size * (suc t + 1) ≡ at + size + size * (t + 1) = omega arith in
-    rw (next, after) (tiles-above size n _ f (at + size) (passed size n before f at e .rest) t (omega arith))
+    rw (next, after) (tiles-rise size n _ f (at + size) (passed size n before f at e .rest) t (omega arith))
 
 pub window-inside : (size : ℕ) (f : List ℕ) (r : Row) {q : ℕ} → got tt q ≡ run (tiles size (r .count) 0) f (r .tiles)
     → (t : ℕ) → t < r .count → (pointerAt size f r t < windowEnd size f r t) × (windowEnd size f r t ≤ length f)
@@ -83,5 +87,5 @@ window-inside size f r e t below =
     by-cases (λ (end : ℕ). (numberAt size f (r .tiles + size * t) < end) × (end ≤ length f)) (ltb (t + 1) (r .count)) _ _
     (λ more.
     let h = ltb-true (t + 1) (r .count) more in
-    (tiles-above size (r .count) 0 f (r .tiles) e t h, omega (arith, tiles-rise size (r .count) 0 f (r .tiles) e (t + 1) h)))
-    (λ _. (tiles-rise size (r .count) 0 f (r .tiles) e t below, omega arith))
+    (tiles-rise size (r .count) 0 f (r .tiles) e t h, omega (arith, tiles-below size (r .count) 0 f (r .tiles) e (t + 1) h)))
+    (λ _. (tiles-below size (r .count) 0 f (r .tiles) e t below, omega arith))

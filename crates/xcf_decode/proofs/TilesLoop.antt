@@ -20,8 +20,8 @@ use Rattle.xcf_decode.specs.Window.{tile}
 use Rattle.xcf_decode.specs.Pixels.{tabulate}
 use Rattle.xcf_decode.specs.Answer.{nonzero, marksOf, rowDecoding}
 use Rattle.xcf_decode.specs.Parts.{Ready, Placeable, Scratched, frameOf, putFrame}
-use Rattle.xcf_decode.proofs.Grid.{frame-across, frame-down}
 use Rattle.xcf_decode.proofs.Tabulated.{tabulate-more}
+use Rattle.xcf_decode.proofs.PutTile.{tile-framed}
 use Rattle.xcf_decode.proofs.OneTile.{pixels-small}
 use Rattle.xcf_decode.proofs.Marked.{nonzero-next-good, nonzero-next-bad, nonzero-below}
 use Rattle.xcf_decode.proofs.Shown.{Shown, shown-none, shown-next, shown-all}
@@ -92,10 +92,8 @@ module _ {f : List ℕ} {r : Row} {compression : ℕ} (ready : Ready f r compres
   module _ {pixels marks scratch : List ℕ} {t marked : ℕ} (g : Going f r compression pixels marks scratch t marked) where
     pub tile-placeable : t < r .count → (n : ℕ) → n ≡ 16384 → Placeable r (frameOf r t) n (length pixels)
     tile-placeable less n size = record {
-      across = frame-across (r .width) t (ready .usable .wide .0);
-      down = frame-down (r .width) (r .height) t (ready .usable .wide .0) (omega (arith, less, ready .usable .count));
-      tile = omega (arith, size, pixels-small ready less refl .1);
-      pixels = g .shown .size;
+      framed =
+          tile-framed (ready .usable .wide .0) (omega (arith, less, ready .usable .count)) (omega (arith, size, pixels-small ready less refl .1)) (g .shown .size);
       wide = ready .usable .wide .1;
       high = ready .usable .high .1;
       deep = ready .usable .deep .1;

@@ -2,7 +2,7 @@
 -- (`row-ready`), since a walk's refusals have listed numbers. Buffers that fit have the row's lengths
 -- (`fit-lengths`).
 -- Assumes nothing.
-use Prim.Native.Nat.{ℕ, zero, suc, _*_, _≤_}
+use Prim.Native.Nat.{ℕ, zero, suc, _*_}
 use mathlib.Core.Path.{_≡_, refl}
 use mathlib.Core.List.{List}
 use mathlib.Core.Bool.{Bool, true, false, cond, and-eq-true-iff, false≢true}
@@ -14,6 +14,7 @@ use Rattle.xcf_table.specs.declared.Row.{Row}
 use Rattle.xcf_table.specs.Table.{tableSize}
 use Rattle.xcf_tile.specs.Grid.{tileCount}
 use Rattle.xcf_tile.specs.Answer.{within}
+use Rattle.xcf_tile.proofs.Sizes.{within-bounds}
 use Rattle.xcf_read.specs.Hierarchy.{pointerSize, tiles}
 use Rattle.xcf_read.specs.Answer.{fileLimit, refusals, listed}
 use Rattle.xcf_read.proofs.Numbers.{numbered-tiles}
@@ -24,9 +25,6 @@ use Rattle.xcf_decode.specs.Parts.{Usable, Ready}
 cond-zero : (b : Bool) (x y : ℕ) → (y ≡ 0 → ⊥) → cond b x y ≡ 0 → (b ≡ true) × (x ≡ 0)
 cond-zero true x y other e = (refl, e)
 cond-zero false x y other e = absurd (other e)
-
-lies-in : (low high x : ℕ) → within low high x ≡ true → (low ≤ x) × (x ≤ high)
-lies-in low high x e = let b = and-eq-true-iff (leb low x) (leb x high) .0 e in (leb-true low x (b .0), leb-true x high (b .1))
 
 pub row-usable : (size n : ℕ) (r : Row) (compression : ℕ) → rowRefusal pointerSize size n r compression ≡ 0 → Usable r compression
 unfolding rowRefusal usableRow inRange inFile
@@ -40,23 +38,23 @@ row-usable size n r compression e =
     let inside = and-eq-true-iff (inFile pointerSize size r) _ .0 (row .1) in
     let count = and-eq-true-iff (eqb (r .count) (tileCount (r .width) (r .height))) _ .0 (inside .0) in
     record {
-      wide = lies-in 1 16384 (r .width) (sides .0);
-      high = lies-in 1 16384 (r .height) (more .0);
-      deep = lies-in 1 4 (r .depth) (more .1);
+      wide = within-bounds 1 16384 (r .width) (sides .0);
+      high = within-bounds 1 16384 (r .height) (more .0);
+      deep = within-bounds 1 4 (r .depth) (more .1);
       count = eqb-true (r .count) _ (count .0);
       way = leb-true compression 1 (inside .1);
     }
 
 -- a listed number is not 0
-not-refused : (x : Outcome (Unit {0})) → ((n p : ℕ) → refused n p ≡ x → listed refusals n ≡ true) → pointersRefusal x .number ≡ 0 → (q : ℕ) × (got tt q ≡ x)
+pointers-taken : (x : Outcome (Unit {0})) → ((n p : ℕ) → refused n p ≡ x → listed refusals n ≡ true) → pointersRefusal x .number ≡ 0 → (q : ℕ) × (got tt q ≡ x)
 unfolding listed
-not-refused (got u q) number z = (q, refl)
-not-refused (refused zero p) number z = absurd (false≢true (number zero p refl))
-not-refused (refused (suc n) p) number z = absurd (omega (arith, z))
+pointers-taken (got u q) number z = (q, refl)
+pointers-taken (refused zero p) number z = absurd (false≢true (number zero p refl))
+pointers-taken (refused (suc n) p) number z = absurd (omega (arith, z))
 
 pub row-ready : {f : List ℕ} {r : Row} {compression : ℕ} → Usable r compression → pointersRefusal (run (tiles pointerSize (r .count) 0) f (r .tiles)) .number ≡ 0 → Ready f r compression
 row-ready {f} {r} u z =
-    let end = not-refused (run (tiles pointerSize (r .count) 0) f (r .tiles)) (λ n p e. numbered-tiles pointerSize (r .count) 0 .number f (r .tiles) e) z in
+    let end = pointers-taken (run (tiles pointerSize (r .count) 0) f (r .tiles)) (λ n p e. numbered-tiles pointerSize (r .count) 0 .number f (r .tiles) e) z in
     record { usable = u; end = end .0; pointers = end .1 }
 
 pub fit-lengths : (r : Row) (pixels marks : ℕ) → fits r pixels marks ≡ true → (pixels ≡ r .width * r .height * r .depth) × (marks ≡ r .count)

@@ -1,4 +1,5 @@
--- What the decoder of a drawable answers, and what it leaves in the buffers lent for the pixels and the marks.
+-- What the decoder of a drawable answers, and what it leaves in the buffers lent for the pixels and the marks. A pointer has `size`
+-- bytes.
 use Prim.Native.Nat.{ℕ, _+_, _*_}
 use mathlib.Core.Path.{_≡_}
 use mathlib.Core.List.{List, [], _∷_}
@@ -16,7 +17,7 @@ use Rattle.xcf_decode.specs.declared.DecodeAnswer.{DecodeAnswer}
 use Rattle.xcf_decode.specs.Window.{tile}
 use Rattle.xcf_decode.specs.Pixels.{tabulate, pixelsOf}
 
--- kind 1 to 3, sides and depth in range
+-- kind 1 to 3, sides and depth in range; a row that the table does not have is an unused one, of kind 0
 unfoldable pub inRange : Row → Bool
 inRange r = within 1 3 (r .kind) && (within 1 16384 (r .width) && (within 1 16384 (r .height) && within 1 4 (r .depth)))
 
@@ -94,7 +95,7 @@ counting file table k compression =
     cond (eqb (answer .number) 0) (counted (marksOf pointerSize file r compression)) answer
 
 -- the decoder's promise: its answer r, and the new content of the buffers
-pub record Decodes (file table : List ℕ) (k compression : ℕ) (oldPixels oldMarks : List ℕ) (r : DecodeAnswer) (newPixels newMarks : List ℕ) : Type 0 where
+pub record DrawableDecoded (file table : List ℕ) (k compression : ℕ) (oldPixels oldMarks : List ℕ) (r : DecodeAnswer) (newPixels newMarks : List ℕ) : Type 0 where
   pub answer : r ≡ decoding file table k compression oldPixels oldMarks .answer
   pub pixels : newPixels ≡ decoding file table k compression oldPixels oldMarks .pixels
   pub marks : newMarks ≡ decoding file table k compression oldPixels oldMarks .marks

@@ -15,7 +15,7 @@ use Rattle.xcf_decode.specs.Window.{window, InWindow, tile}
 use Rattle.xcf_decode.specs.Pixels.{shown}
 use Rattle.xcf_decode.specs.Answer.{fits, Decoding, decoding}
 
--- the rules give the whole tile from these bytes, all of them consumed, with these pixels
+-- the rules give the whole tile from these bytes with no 20 or 21, all of them consumed, and these are its pixels
 pub record Encoding (bytes : List ℕ) (w h depth compression : ℕ) (pixels : List ℕ) : Type 0 where
   pub good : tileOf bytes w h depth compression .mark ≡ 0
   pub whole : tileOf bytes w h depth compression .consumed ≡ length bytes
@@ -29,12 +29,12 @@ pub record BeginsWith (window : List ℕ) (w h depth compression : ℕ) (pixels 
 
 -- a tile's mark and pixels: it is good exactly when its window begins with a valid encoding, and then shows that encoding's
 -- pixels; otherwise it is marked and its pixels are zero
-pub record Follows (window : List ℕ) (w h depth compression mark : ℕ) (pixels : List ℕ) : Type 0 where
+pub record GoodWhenValid (window : List ℕ) (w h depth compression mark : ℕ) (pixels : List ℕ) : Type 0 where
   pub good : mark ≡ 0 → BeginsWith window w h depth compression pixels
   pub valid : (ps : List ℕ) → BeginsWith window w h depth compression ps → (mark ≡ 0) × (pixels ≡ ps)
   pub marked : (mark ≡ 0 → ⊥) → pixels ≡ replicate (w * h * depth) 0
 
--- what the reader gave for a file: the row k of the table
+-- row k of the table that the reader gave
 abbrev pub rowOf : Reading → ℕ → Row
 rowOf x k = rowAt (x .table) k
 
@@ -59,17 +59,17 @@ pub record Damaged (f g : List ℕ) (x : Reading) (Chosen : ℕ → ℕ → Type
   pub structure : (i : ℕ) → (getD f i 0 ≡ getD g i 0 → ⊥) → structureByte f i → ⊥
   pub others : (i : ℕ) → (getD f i 0 ≡ getD g i 0 → ⊥) → (k t : ℕ) → IsTile x k t → (Chosen k t → ⊥) → InWindow pointerSize f (rowOf x k) t i → ⊥
 
--- what the decodings d of f and e of g show of row k
+-- what the decodings d of f and e of g show of a row r: its tiles that are not chosen, and the chosen ones by the rules
 pub record RowIsolated (g : List ℕ) (r : Row) (compression : ℕ) (Chosen : ℕ → Type 0) (d e : Decoding) : Type 0 where
   pub accepted : (d .answer .number ≡ 0) × (e .answer .number ≡ 0)
   pub same : (t : ℕ) → t < r .count → (Chosen t → ⊥)
       → (getD (e .marks) t 0 ≡ getD (d .marks) t 0)
       × (shown (r .width) (r .height) (r .depth) t (e .pixels) ≡ shown (r .width) (r .height) (r .depth) t (d .pixels))
-  pub ruled : (t : ℕ) → t < r .count → Chosen t
+  pub given : (t : ℕ) → t < r .count → Chosen t
       → (getD (e .marks) t 0 ≡ tile pointerSize g r compression t .mark)
       × (shown (r .width) (r .height) (r .depth) t (e .pixels) ≡ tile pointerSize g r compression t .pixels)
-  pub follows : (t : ℕ) → t < r .count → Chosen t
-      → Follows (window pointerSize g r t) (tileWidth (r .width) t) (tileHeight (r .width) (r .height) t) (r .depth) compression
+  pub good : (t : ℕ) → t < r .count → Chosen t
+      → GoodWhenValid (window pointerSize g r t) (tileWidth (r .width) t) (tileHeight (r .width) (r .height) t) (r .depth) compression
       (getD (e .marks) t 0) (shown (r .width) (r .height) (r .depth) t (e .pixels))
 
 -- g is read as f was, and its rows are isolated: the decoder is lent each file, what the reader gave for it, and buffers of the

@@ -44,19 +44,26 @@ unfoldable pub putFrame : List ℕ → ℕ → ℕ → Frame → List ℕ → Li
 putFrame pixels width depth s tile =
     putLines pixels (depth * (tileSide * (width * s .line + s .column))) (depth * width) tile 0 (depth * s .width) (s .height)
 
--- room for n lines
-pub record Room (pixels : List ℕ) (to stride : ℕ) (tile : List ℕ) (from line n : ℕ) : Type 0 where
+-- the tile has n lines from a place on, and the pixels have room for them
+pub record Fits (pixels : List ℕ) (to stride : ℕ) (tile : List ℕ) (from line n : ℕ) : Type 0 where
   pub source : from + line * n ≤ length tile
   pub target : to + stride * n + line ≤ length pixels + stride
-  pub apart : line ≤ stride
+
+-- and the places behind the lines are small
+pub record Room (pixels : List ℕ) (to stride : ℕ) (tile : List ℕ) (from line n : ℕ) : Type 0 where
+  pub fits : Fits pixels to stride tile from line n
   pub small : length pixels + stride < 4294967296
 
 -- a tile's frame lies in its row's drawable, whose pixels and the tile's have these lengths
-pub record Placeable (r : Row) (s : Frame) (tileLength pixelsLength : ℕ) : Type 0 where
+pub record Framed (r : Row) (s : Frame) (tileLength pixelsLength : ℕ) : Type 0 where
   pub across : tileSide * s .column + s .width ≤ r .width
   pub down : tileSide * s .line + s .height ≤ r .height
-  pub tile : s .width * s .height * r .depth ≤ tileLength
-  pub pixels : pixelsLength ≡ r .width * r .height * r .depth
+  pub source : s .width * s .height * r .depth ≤ tileLength
+  pub target : pixelsLength ≡ r .width * r .height * r .depth
+
+-- and the drawable's sides and depth are in range
+pub record Placeable (r : Row) (s : Frame) (tileLength pixelsLength : ℕ) : Type 0 where
+  pub framed : Framed r s tileLength pixelsLength
   pub wide : r .width ≤ 16384
   pub high : r .height ≤ 16384
   pub deep : r .depth ≤ 4

@@ -29,9 +29,9 @@ fn decode_tiles(
     let mut t: u32 = 0;
     let mut marked: u64 = 0;
     while t < row.count {
-        let spot = frame_of(row, t);
-        let mark = decode_one(file, row, compression, t, spot, scratch);
-        put_tile(row, spot, scratch, pixels);
+        let frame = frame_of(row, t);
+        let mark = decode_one(file, row, compression, t, frame, scratch);
+        put_tile(row, frame, scratch, pixels);
         marks[t as usize] = mark;
         if mark != 0 {
             marked += 1;

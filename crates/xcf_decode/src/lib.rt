@@ -6,7 +6,7 @@ mod place;
 mod tile;
 
 ghost use mathlib.Core.Path.{_≡_};
-ghost use Rattle.xcf_decode.specs.Answer.{refusal, counting, Decodes};
+ghost use Rattle.xcf_decode.specs.Answer.{refusal, counting, DrawableDecoded};
 use crate::check::fits;
 use crate::check::pointers_refusal;
 use crate::check::row_refusal;
@@ -40,7 +40,7 @@ pub fn decode(
     pixels: &mut [u8],
     marks: &mut [u8],
 ) -> DecodeAnswer
-    ensures { λ r. ⌜ Decodes (now (file .entry)) (now (table .entry)) k compression (now (pixels .entry)) (now (marks .entry)) r (now (pixels .exit)) (now (marks .exit)) ⌝ }
+    ensures { λ r. ⌜ DrawableDecoded (now (file .entry)) (now (table .entry)) k compression (now (pixels .entry)) (now (marks .entry)) r (now (pixels .exit)) (now (marks .exit)) ⌝ }
 {
     let row = row_at(table, k);
     let refused = row_refusal(file, table.len(), row, compression);

@@ -1,6 +1,5 @@
 // A tile's lines, put at the tile's place in its drawable.
 ghost use mathlib.Core.Path.{_≡_};
-ghost use Prim.Native.Nat.{_*_, _≤_, _<_};
 ghost use lib.ListN.{length};
 ghost use Rattle.xcf_decode.specs.Parts.{putLines, putFrame, Room, Placeable};
 use crate::tile::Frame;
@@ -24,17 +23,17 @@ fn put_lines(tile: &[u8], line: usize, n: u32, pixels: &mut [u8], at: usize, str
 }
 
 // The tile at its place in the row's pixels.
-pub(crate) fn put_tile(row: Row, spot: Frame, tile: &[u8], pixels: &mut [u8])
-    requires { ⌜ Placeable row spot (length (now tile)) (length (now pixels)) ⌝ }
-    ensures { λ _. ⌜ now (pixels .exit) ≡ putFrame (now (pixels .entry)) (row .width) (row .depth) spot (now (tile .entry)) ⌝ }
+pub(crate) fn put_tile(row: Row, frame: Frame, tile: &[u8], pixels: &mut [u8])
+    requires { ⌜ Placeable row frame (length (now tile)) (length (now pixels)) ⌝ }
+    ensures { λ _. ⌜ now (pixels .exit) ≡ putFrame (now (pixels .entry)) (row .width) (row .depth) frame (now (tile .entry)) ⌝ }
 {
     let depth = row.depth as usize;
     let width = row.width as usize;
-    let first = 64 * (width * spot.line as usize + spot.column as usize);
+    let first = 64 * (width * frame.line as usize + frame.column as usize);
     put_lines(
         tile,
-        depth * spot.width as usize,
-        spot.height,
+        depth * frame.width as usize,
+        frame.height,
         pixels,
         depth * first,
         depth * width,

@@ -9,7 +9,7 @@ use xcf_table::Row;
 use xcf_tile::decode_tile;
 use xcf_tile::grid::side_of;
 use xcf_tile::grid::tiles_along;
-use xcf_walk::rising::word_in;
+use xcf_walk::cursor::word_in;
 
 // The most bytes of a tile.
 pub(crate) const TILE_SIZE: usize = 16384;
@@ -63,20 +63,20 @@ pub(crate) fn decode_one(
     row: Row,
     compression: u32,
     t: u32,
-    spot: Frame,
+    frame: Frame,
     scratch: &mut [u8],
 ) -> u8
     requires { ⌜ Ready (now file) row compression ⌝ }
-    requires { ⌜ (t < row .count) × (spot ≡ frameOf row t) × (length (now scratch) ≡ 16384) ⌝ }
+    requires { ⌜ (t < row .count) × (frame ≡ frameOf row t) × (length (now scratch) ≡ 16384) ⌝ }
     ensures { λ r. ⌜ Scratched (tile pointerSize (now (file .entry)) row compression t) r (now (scratch .entry)) (now (scratch .exit)) ⌝ }
 {
     let start = pointer_at(file, row, t);
     let end = window_end(file, row, t);
-    let size = (spot.width * spot.height * row.depth) as usize;
+    let size = (frame.width * frame.height * row.depth) as usize;
     let answer = decode_tile(
         &file[start..end],
-        spot.width,
-        spot.height,
+        frame.width,
+        frame.height,
         row.depth,
         compression,
         &mut scratch[..size],

@@ -1,18 +1,12 @@
 // Lists the XCF files that its arguments name, each behind a line with its name.
 use libc::STDOUT_FILENO;
+use xcf_listing::INPUT_SIZE;
 use xcf_listing::TEXT_SIZE;
+use xcf_listing::print::print_listing;
 use xcf_table::TABLE_SIZE;
-
-// The most bytes of a file that is listed.
-const LIMIT: usize = 32768;
 
 // The most cases that are listed.
 const CASES: usize = 64;
-
-fn print_listing(file: &[u8], table: &mut [u32], text: &mut [u8]) {
-    let n = xcf_listing::list(file, LIMIT, table, text);
-    io::write_all(STDOUT_FILENO, &text[..n]);
-}
 
 fn print_case(name: &[u8], input: &mut [u8], table: &mut [u32], text: &mut [u8]) {
     io::write_all(STDOUT_FILENO, name);
@@ -29,7 +23,7 @@ fn print_case(name: &[u8], input: &mut [u8], table: &mut [u32], text: &mut [u8])
 
 fn print_cases(name: &mut [u8], input: &mut [u8], table: &mut [u32], text: &mut [u8]) {
     let mut i = 1;
-    while i < CASES {
+    while i <= CASES {
         let n = os::arg(i, name);
         if n == 0 {
             return;
@@ -41,7 +35,7 @@ fn print_cases(name: &mut [u8], input: &mut [u8], table: &mut [u32], text: &mut 
 
 fn main() {
     let mut name = [0u8; 256];
-    let mut input = [0u8; 32769];
+    let mut input = [0u8; INPUT_SIZE];
     let mut table = [0u32; TABLE_SIZE];
     let mut text = [0u8; TEXT_SIZE];
     print_cases(&mut name, &mut input, &mut table, &mut text);

@@ -18,7 +18,7 @@ use Rattle.xcf_table.specs.Table.{tableSize, rowAt}
 use Rattle.xcf_read.specs.declared.ReadAnswer.{ReadAnswer}
 use Rattle.xcf_read.specs.Answer.{Reading, reading, Read}
 use Rattle.xcf_decode.proofs.Accepts.{Accepts, accepts}
-use Rattle.xcf_listing.specs.Listing.{textSize, canvasLine, rowLines, refusedLine, linesOf, listing, written, tableAfter, Lists}
+use Rattle.xcf_listing.specs.Listing.{textSize, canvasLine, rowLines, refusedLine, linesOf, listLimit, listing, written, tableAfter, Lists, Prints}
 use Rattle.xcf_listing.specs.Parts.{Puts}
 
 -- row 128 would be an unused row, of kind 0
@@ -26,7 +26,7 @@ no-row : (table : List ℕ) → length table ≡ tableSize → rowAt table 128 .
 unfolding rowAt
 no-row table size = rw size
 
-pub few-rows : {f : List ℕ} {x : Reading} → Accepts f x → x .answer .rows ≤ 128
+few-rows : {f : List ℕ} {x : Reading} → Accepts f x → x .answer .rows ≤ 128
 few-rows {x = x} a =
     ⊎-elim
     (λ below. omega arith)
@@ -52,7 +52,8 @@ module _ (limit : ℕ) (file table text : List ℕ) where
 
   -- the listing put at the text's start, with the table as the reader left it where it was asked
   module _ (room : textSize ≤ length text) {m r : ℕ} {new : List ℕ} where
-    lists-put : {after : List ℕ} → Puts text 0 (listing limit file table) m r new → after ≡ cond (leb (length file) limit) (reading file table .table) table → Lists limit file table text r after new
+    lists-put : {after : List ℕ} → Puts text 0 (listing limit file table) m r new
+        → after ≡ cond (leb (length file) limit) (reading file table .table) table → Lists limit file table text r after new
     unfolding written tableAfter
     lists-put p e = record {
       answer = rw (le-leb _ _ room) (p .behind ∙ zero-add _);
@@ -75,12 +76,19 @@ module _ (limit : ℕ) (file table text : List ℕ) where
       unfolding linesOf
       lists-refused n p = lists-read (rw (← read .answer, ne-eqb _ _ n) p)
 
-      pub lists-accepted : a .number ≡ 0 → Puts text 0 (canvasLine a ++ rowLines file after (a .compression) 0 (a .rows)) m r new → Lists limit file table text r after new
+      pub lists-accepted : a .number ≡ 0 → Puts text 0 (canvasLine a ++ rowLines file after (a .compression) 0 (a .rows)) m r new
+          → Lists limit file table text r after new
       unfolding linesOf
       lists-accepted n p = lists-read (rw (← read .answer, ← read .table, eq-eqb _ _ n) p)
 
 -- the bytes of the listing are counted, so that a caller can take them
-pub lists-counted : {limit : ℕ} {file table text : List ℕ} {r : ℕ} {after new : List ℕ} → Lists limit file table text r after new → Lists limit file table text r after new × Counts r new
+pub lists-counted : {limit : ℕ} {file table text : List ℕ} {r : ℕ} {after new : List ℕ} → Lists limit file table text r after new
+    → Lists limit file table text r after new × Counts r new
 lists-counted {r = r} {new = new} l =
     let inside : r ≤ length new = rw (l .answer, l .text) (simp length-append (omega arith)) in
     (l, (inside, sym (length-take-le r new inside)))
+
+-- what is listed is printed
+pub lists-printed : {file table text : List ℕ} {r : ℕ} {after new : List ℕ} → Lists listLimit file table text r after new
+    → Prints file table text after new
+lists-printed l = rw (l .answer) at l

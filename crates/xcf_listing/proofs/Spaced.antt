@@ -30,10 +30,12 @@ unfolding spacedAll
 spaced-start l at = puts-none l at
 
 -- a turn
-pub spaced-turn : {l : List ℕ} {at : ℕ} (ns : List ℕ) (i : ℕ) {next : ℕ} {text : List ℕ} {n end : ℕ} {new : List ℕ} → Puts l at (spacedAll (take i ns)) (21 * i) next text
-    → i < length ns → at + 21 * length ns ≤ length l → n ≡ getD ns i 0 → Puts text next (spaced n) 21 end new → Puts l at (spacedAll (take (i + 1) ns)) (21 * (i + 1)) end new
+pub spaced-turn : {l : List ℕ} {at : ℕ} (ns : List ℕ) (i : ℕ) {next : ℕ} {text : List ℕ} {n end : ℕ} {new : List ℕ}
+    → Puts l at (spacedAll (take i ns)) (21 * i) next text → i < length ns → at + 21 * length ns ≤ length l
+    → n ≡ getD ns i 0 → Puts text next (spaced n) 21 end new → Puts l at (spacedAll (take (i + 1) ns)) (21 * (i + 1)) end new
 spaced-turn ns i p h room e q = rw (spaced-next ns i h, ← e) (puts-few (puts-then p (omega arith) (λ r. q)) _ (omega arith))
 
 -- at the end
-pub spaced-whole : {l : List ℕ} {at : ℕ} (ns : List ℕ) (i : ℕ) {next : ℕ} {text : List ℕ} → Puts l at (spacedAll (take i ns)) (21 * i) next text → i ≡ length ns → Puts l at (spacedAll ns) (21 * length ns) next text
+pub spaced-whole : {l : List ℕ} {at : ℕ} (ns : List ℕ) (i : ℕ) {next : ℕ} {text : List ℕ}
+    → Puts l at (spacedAll (take i ns)) (21 * i) next text → i ≡ length ns → Puts l at (spacedAll ns) (21 * length ns) next text
 spaced-whole ns i p e = rw (e, take-length) at p

@@ -2,38 +2,35 @@
 -- and behind a run is what stood there; and a copy into a text's tail puts its bytes from the tail's start on.
 -- Assumes nothing.
 use mathlib.Core.Path.{_≡_, refl, sym, ap, _∙_}
-use mathlib.Core.List.{List, [], _++_, append-assoc, append-nil}
+use mathlib.Core.List.{List, [], _++_, append-assoc}
 use Prim.Native.Nat.{ℕ, _+_, _-_, _≤_}
 use native.Mathlib.Nat.{le-refl, add-assoc}
 use native.Mathlib.Omega.{arith}
-use lib.ListN.{length, take, drop, length-append, length-drop, drop-of-length-le}
-use lib.Seq.{paste, paste-zero, length-paste, take-paste, drop-paste, take-length, take-all, drop-drop}
+use lib.ListN.{length, take, drop, length-append}
+use lib.Seq.{paste, paste-zero, length-paste, take-paste, drop-paste, take-length, drop-drop}
+use Rattle.xcf_walk.proofs.Tails.{tail-copied}
 use Rattle.xcf_listing.specs.Parts.{Puts}
 
 -- bs and then cs behind them
-paste-append : (l : List ℕ) (at : ℕ) (bs cs : List ℕ) → at ≤ length l → paste (paste l at bs (length bs)) (at + length bs) cs (length cs) ≡ paste l at (bs ++ cs) (length (bs ++ cs))
+paste-append : (l : List ℕ) (at : ℕ) (bs cs : List ℕ) → at ≤ length l
+    → paste (paste l at bs (length bs)) (at + length bs) cs (length cs) ≡ paste l at (bs ++ cs) (length (bs ++ cs))
 paste-append l at bs cs h =
     let front = take-paste l at bs (length bs) h (le-refl _) in
     let rest = drop-paste l at bs (length bs) h (le-refl _) in
     let behind : drop (at + length bs + length cs) (paste l at bs (length bs)) ≡ drop (at + length (bs ++ cs)) l =
     sym (drop-drop (length cs) (at + length bs) _) ∙ ap (drop (length cs)) rest ∙ rw (drop-drop, length-append, add-assoc) in
-    rw (front, behind, take-length bs, take-length cs, take-length (bs ++ cs)) (ap (λ (r : List ℕ). r ++ drop (at + length (bs ++ cs)) l) (append-assoc (take at l) bs cs))
+    rw (front, behind, take-length bs, take-length cs, take-length (bs ++ cs))
+    (ap (λ (r : List ℕ). r ++ drop (at + length (bs ++ cs)) l) (append-assoc (take at l) bs cs))
 
 -- a copy of bs to the start of what is left from at on
-pub puts-copy : (l : List ℕ) (at : ℕ) (bs : List ℕ) → at + length bs ≤ length l → (part : List ℕ) → part ≡ take (length bs) bs ++ drop (length bs) (take (length l - at) (drop at l))
+pub puts-copy : (l : List ℕ) (at : ℕ) (bs part : List ℕ)
+    → part ≡ take (length bs) bs ++ drop (length bs) (take (length l - at) (drop at l))
     → Puts l at bs (length bs) (at + length bs) (take at l ++ (part ++ drop (length l - at) (drop at l)))
-puts-copy l at bs h part e =
-    let whole : take (length l - at) (drop at l) ≡ drop at l = take-all (length l - at) (drop at l) (rw length-drop (omega arith)) in
-    let none : drop (length l - at) (drop at l) ≡ [] = rw drop-drop (drop-of-length-le l {i = at + (length l - at)} (omega arith)) in
-    record {
-      behind = refl;
-      few = le-refl _;
-      text = rw (e, whole, none, drop-drop, append-nil) (sym (append-assoc (take at l) (take (length bs) bs) _));
-    }
+puts-copy l at bs part e = record { behind = refl; few = le-refl _; text = rw e (tail-copied l at bs) }
 
 module _ {old : List ℕ} {at : ℕ} {bs : List ℕ} {m mid : ℕ} {text : List ℕ} (p : Puts old at bs m mid text) where
   -- the text keeps its length
-  pub puts-length : at + m ≤ length old → length text ≡ length old
+  puts-length : at + m ≤ length old → length text ≡ length old
   puts-length h = ap length (p .text) ∙ length-paste old at bs (length bs) (omega (arith, p .few)) (le-refl _)
 
   -- what is few stays few under a larger bound
@@ -41,7 +38,8 @@ module _ {old : List ℕ} {at : ℕ} {bs : List ℕ} {m mid : ℕ} {text : List 
   puts-few n h = record { behind = p .behind; few = omega (arith, p .few); text = p .text }
 
   -- cs behind bs, where there is room for both
-  pub puts-then : {cs : List ℕ} {n end : ℕ} {new : List ℕ} → at + (m + n) ≤ length old → (mid + n ≤ length text → Puts text mid cs n end new) → Puts old at (bs ++ cs) (m + n) end new
+  pub puts-then : {cs : List ℕ} {n end : ℕ} {new : List ℕ} → at + (m + n) ≤ length old
+      → (mid + n ≤ length text → Puts text mid cs n end new) → Puts old at (bs ++ cs) (m + n) end new
   puts-then {cs} {n} {end} {new} h next =
       let q = next (omega (arith, p .few, p .behind, puts-length (omega arith))) in
       record {

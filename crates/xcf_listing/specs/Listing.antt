@@ -48,10 +48,15 @@ bad = 32 ∷ 98 ∷ 97 ∷ 100 ∷ []
 unfoldable pub refusedLine : ℕ → ℕ → List ℕ
 refusedLine n p = refused ++ (spaced n ++ (at ++ (spaced p ++ newline)))
 
+-- the canvas's sides and base, then the rest of its line
+unfoldable pub canvasSides : ReadAnswer → List ℕ
+canvasSides a = canvas ++ (spaced (a .width) ++ (spaced (a .height) ++ (base ++ spaced (a .base))))
+
+unfoldable pub canvasRest : ReadAnswer → List ℕ
+canvasRest a = version ++ (spaced (a .version) ++ (compression ++ (spaced (a .compression) ++ (rows ++ (spaced (a .rows) ++ newline)))))
+
 unfoldable pub canvasLine : ReadAnswer → List ℕ
-canvasLine a =
-    canvas ++ (spaced (a .width) ++ (spaced (a .height) ++ (base ++ (spaced (a .base) ++ (version ++ (spaced (a .version)
-    ++ (compression ++ (spaced (a .compression) ++ (rows ++ (spaced (a .rows) ++ newline))))))))))
+canvasLine a = canvasSides a ++ canvasRest a
 
 -- 1 layer, 2 mask, 3 channel
 unfoldable pub kindName : ℕ → List ℕ
@@ -60,7 +65,8 @@ kindName kind = cond (eqb kind 1) layer (cond (eqb kind 2) mask channel)
 -- row k: its kind, its fields 1 to 15, and how many of its tiles are marked
 unfoldable pub rowLine : List ℕ → ℕ → ℕ → List ℕ
 rowLine table k marked =
-    decimal k ++ (kindName (rowAt table k .kind) ++ (spacedAll (take (rowSize - 1) (drop (rowSize * k + 1) table)) ++ (bad ++ (spaced marked ++ newline))))
+    decimal k ++ (kindName (rowAt table k .kind) ++ (spacedAll (take (rowSize - 1) (drop (rowSize * k + 1) table))
+    ++ (bad ++ (spaced marked ++ newline))))
 
 -- n rows from row k on
 unfoldable pub rowLines : List ℕ → List ℕ → ℕ → ℕ → ℕ → List ℕ
@@ -73,6 +79,10 @@ linesOf file x =
     cond (eqb (x .answer .number) 0)
     (canvasLine (x .answer) ++ rowLines file (x .table) (x .answer .compression) 0 (x .answer .rows))
     (refusedLine (x .answer .number) (x .answer .place))
+
+-- the limit of a printed listing: "Input over 32,768 bytes prints `refused 15 at 0`."
+abbrev pub listLimit : ℕ
+listLimit = 32768
 
 -- a file of more than `limit` bytes is refused as too long
 unfoldable pub listing : ℕ → List ℕ → List ℕ → List ℕ
@@ -95,3 +105,8 @@ pub record Lists (limit : ℕ) (file oldTable oldText : List ℕ) (r : ℕ) (new
   pub answer : r ≡ length (written limit file oldTable (length oldText))
   pub text : newText ≡ written limit file oldTable (length oldText) ++ drop r oldText
   pub table : newTable ≡ tableAfter limit file oldTable (length oldText)
+
+-- the same of a printed listing, whose number of bytes is not answered
+abbrev pub Prints : List ℕ → List ℕ → List ℕ → List ℕ → List ℕ → Type 0
+Prints file oldTable oldText newTable newText =
+    Lists listLimit file oldTable oldText (length (written listLimit file oldTable (length oldText))) newTable newText

@@ -5,6 +5,13 @@ use mathlib.Core.List.{List}
 use lib.ListN.{length}
 use lib.Seq.{paste}
 
+-- room for any line, and for half of one
+abbrev pub lineSize : ℕ
+lineSize = 400
+
+abbrev pub halfSize : ℕ
+halfSize = 200
+
 -- bs stored from a place on, at most so many, and the place behind them
 pub record Puts (old : List ℕ) (at : ℕ) (bs : List ℕ) (most r : ℕ) (new : List ℕ) : Type 0 where
   pub behind : r ≡ at + length bs

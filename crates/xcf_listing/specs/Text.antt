@@ -10,7 +10,7 @@ newline = 10 ∷ []
 abbrev pub space : List ℕ
 space = 32 ∷ []
 
--- a number in decimal, the high digit first; a number has at most as many digits as `fuel`, which is the number itself
+-- a number in decimal, the high digit first, where it has at most one digit more than `fuel`; the number itself is fuel enough
 unfoldable pub decimalWithin : ℕ → ℕ → List ℕ
 decimalWithin zero n = (48 + n) ∷ []
 decimalWithin (suc fuel) n = cond (ltb n 10) ((48 + n) ∷ []) (decimalWithin fuel (n / 10) ++ ((48 + n % 10) ∷ []))

@@ -1,5 +1,6 @@
 // The listing of an XCF file as text.
 mod line;
+pub mod print;
 mod text;
 
 ghost use Rattle.io.specs.Counts.{Counts};
@@ -10,6 +11,12 @@ use crate::line::put_rows;
 
 // Room for every listing.
 pub const TEXT_SIZE: usize = 65536;
+
+// The most bytes of a file whose listing is printed.
+pub const LIST_LIMIT: usize = 32768;
+
+// Room for such a file and a byte more, by which a longer one is seen.
+pub const INPUT_SIZE: usize = LIST_LIMIT + 1;
 
 // The listing of a file of at most `limit` bytes, at the text's start; how many bytes it has. A text shorter than TEXT_SIZE stays
 // as lent, and so does the table.

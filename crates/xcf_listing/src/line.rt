@@ -2,8 +2,8 @@
 ghost use Prim.Native.Nat.{_+_, _*_, _≤_};
 ghost use lib.ListN.{length};
 ghost use Rattle.xcf_table.specs.Table.{rowSize};
-ghost use Rattle.xcf_listing.specs.Listing.{refusedLine, canvasLine, kindName, rowLine, rowLines};
-ghost use Rattle.xcf_listing.specs.Parts.{Puts};
+ghost use Rattle.xcf_listing.specs.Listing.{refusedLine, canvasSides, canvasRest, canvasLine, kindName, rowLine, rowLines};
+ghost use Rattle.xcf_listing.specs.Parts.{lineSize, halfSize, Puts};
 use crate::text::put_all;
 use crate::text::put_bytes;
 use crate::text::put_decimal;
@@ -13,8 +13,8 @@ use xcf_read::ReadAnswer;
 use xcf_table::ROW_SIZE;
 
 pub(crate) fn put_refusal(text: &mut [u8], number: u64, place: u64) -> usize
-    requires { ⌜ 400 ≤ length (now text) ⌝ }
-    ensures { λ r. ⌜ Puts (now (text .entry)) 0 (refusedLine number place) 400 r (now (text .exit)) ⌝ }
+    requires { ⌜ lineSize ≤ length (now text) ⌝ }
+    ensures { λ r. ⌜ Puts (now (text .entry)) 0 (refusedLine number place) lineSize r (now (text .exit)) ⌝ }
 {
     let first = put_bytes(text, 0, b"refused");
     let second = put_spaced(text, first, number);
@@ -24,21 +24,37 @@ pub(crate) fn put_refusal(text: &mut [u8], number: u64, place: u64) -> usize
 }
 
 pub(crate) fn put_canvas(text: &mut [u8], answer: ReadAnswer) -> usize
-    requires { ⌜ 400 ≤ length (now text) ⌝ }
-    ensures { λ r. ⌜ Puts (now (text .entry)) 0 (canvasLine answer) 400 r (now (text .exit)) ⌝ }
+    requires { ⌜ lineSize ≤ length (now text) ⌝ }
+    ensures { λ r. ⌜ Puts (now (text .entry)) 0 (canvasLine answer) lineSize r (now (text .exit)) ⌝ }
+{
+    let at = put_sides(text, answer);
+    put_rest(text, at, answer)
+}
+
+// A canvas's sides and base.
+fn put_sides(text: &mut [u8], answer: ReadAnswer) -> usize
+    requires { ⌜ halfSize ≤ length (now text) ⌝ }
+    ensures { λ r. ⌜ Puts (now (text .entry)) 0 (canvasSides answer) halfSize r (now (text .exit)) ⌝ }
 {
     let first = put_bytes(text, 0, b"canvas");
     let second = put_spaced(text, first, answer.width);
     let third = put_spaced(text, second, answer.height);
     let fourth = put_bytes(text, third, b" base");
-    let fifth = put_spaced(text, fourth, answer.base);
-    let sixth = put_bytes(text, fifth, b" version");
-    let seventh = put_spaced(text, sixth, answer.version);
-    let eighth = put_bytes(text, seventh, b" compression");
-    let ninth = put_spaced(text, eighth, answer.compression);
-    let tenth = put_bytes(text, ninth, b" rows");
-    let eleventh = put_spaced(text, tenth, answer.rows);
-    put_bytes(text, eleventh, b"\n")
+    put_spaced(text, fourth, answer.base)
+}
+
+// The rest of a canvas's line.
+fn put_rest(text: &mut [u8], at: usize, answer: ReadAnswer) -> usize
+    requires { ⌜ at + halfSize ≤ length (now text) ⌝ }
+    ensures { λ r. ⌜ Puts (now (text .entry)) at (canvasRest answer) halfSize r (now (text .exit)) ⌝ }
+{
+    let first = put_bytes(text, at, b" version");
+    let second = put_spaced(text, first, answer.version);
+    let third = put_bytes(text, second, b" compression");
+    let fourth = put_spaced(text, third, answer.compression);
+    let fifth = put_bytes(text, fourth, b" rows");
+    let sixth = put_spaced(text, fifth, answer.rows);
+    put_bytes(text, sixth, b"\n")
 }
 
 fn put_kind(text: &mut [u8], at: usize, kind: u32) -> usize
@@ -56,8 +72,8 @@ fn put_kind(text: &mut [u8], at: usize, kind: u32) -> usize
 
 // The line of row k, of whose tiles so many are marked.
 fn put_row(table: &[u32], k: u32, marked: u64, text: &mut [u8], at: usize) -> usize
-    requires { ⌜ (at + 400 ≤ length (now text)) × (rowSize * (k + 1) ≤ length (now table)) ⌝ }
-    ensures { λ r. ⌜ Puts (now (text .entry)) at (rowLine (now (table .entry)) k marked) 400 r (now (text .exit)) ⌝ }
+    requires { ⌜ (at + lineSize ≤ length (now text)) × (rowSize * (k + 1) ≤ length (now table)) ⌝ }
+    ensures { λ r. ⌜ Puts (now (text .entry)) at (rowLine (now (table .entry)) k marked) lineSize r (now (text .exit)) ⌝ }
 {
     let start = ROW_SIZE * (k as usize);
     let fields = start + 1;
@@ -79,8 +95,9 @@ pub(crate) fn put_rows(
     text: &mut [u8],
     at: usize,
 ) -> usize
-    requires { ⌜ (at + 400 * rows ≤ length (now text)) × (rowSize * rows ≤ length (now table)) ⌝ }
-    ensures { λ r. ⌜ Puts (now (text .entry)) at (rowLines (now (file .entry)) (now (table .entry)) compression 0 rows) (400 * rows) r (now (text .exit)) ⌝ }
+    requires { ⌜ (at + lineSize * rows ≤ length (now text)) × (rowSize * rows ≤ length (now table)) ⌝ }
+    ensures { λ r. ⌜ Puts (now (text .entry)) at (rowLines (now (file .entry)) (now (table .entry)) compression 0 rows)
+        (lineSize * rows) r (now (text .exit)) ⌝ }
 {
     let mut next = at;
     let mut k: u32 = 0;

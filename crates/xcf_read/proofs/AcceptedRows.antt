@@ -25,15 +25,19 @@ use Rattle.xcf_read.specs.Image.{drawables, Image, image, structureByte}
 use Rattle.xcf_walk.proofs.Ensures.{Ensures, ensures-done, ensures-weaken, ensures-bind, ensures-next, ensures-cond}
 use Rattle.xcf_read.proofs.Ranges.{Side, Depth, ensures-layer, ensures-channel, ensures-head, ensures-pointers}
 
+-- the walk over so many tile pointers was taken at their place, over bytes in S
+pub record PointersRead (f : List ℕ) (S : ℕ → Type 0) (count place : ℕ) : Type 0 where
+  pub end : ℕ
+  pub pointers : got tt end ≡ run (tiles pointerSize count 0) f place
+  pub passed : (i : ℕ) → place ≤ i → i < end → S i
+
 pub record RowRead (f : List ℕ) (structure : ℕ → Type 0) (r : Row) : Type 0 where
   pub kind : (1 ≤ r .kind) × (r .kind ≤ 3)
   pub width : (1 ≤ r .width) × (r .width ≤ 16384)
   pub height : (1 ≤ r .height) × (r .height ≤ 16384)
   pub depth : (1 ≤ r .depth) × (r .depth ≤ 4)
   pub count : r .count ≡ tileCount (r .width) (r .height)
-  pub end : ℕ
-  pub pointers : got tt end ≡ run (tiles pointerSize (r .count) 0) f (r .tiles)
-  pub passed : (i : ℕ) → r .tiles ≤ i → i < end → structure i
+  pub tiles : PointersRead f structure (r .count) (r .tiles)
 
 pub record ImageRead (f : List ℕ) (x : Image) : Type 0 where
   pub few : x .rows .count ≤ 128
@@ -46,12 +50,6 @@ record RowsRead (f : List ℕ) (S : ℕ → Type 0) (most : ℕ) (rows : Rows) :
   few : rows .count ≤ most
   size : length (rows .numbers) ≡ rowSize * rows .count
   row : (k : ℕ) → k < rows .count → RowRead f S (rowIn (rows .numbers) (rowSize * k))
-
--- the tiles of a drawable with these sides: the walk over their pointers was taken at their place, over bytes in S
-record TilesRead (f : List ℕ) (S : ℕ → Type 0) (width height place : ℕ) : Type 0 where
-  end : ℕ
-  pointers : got tt end ≡ run (tiles pointerSize (tileCount width height) 0) f place
-  passed : (i : ℕ) → place ≤ i → i < end → S i
 
 straight-tiles : (size n before : ℕ) → Straight (tiles size n before)
 unfolding tiles
@@ -83,15 +81,15 @@ module _ {f : List ℕ} {S : ℕ → Type 0} where
 
   -- a drawable's row, from its numbers and its tiles
   row-read : {r : Row} → (1 ≤ r .kind) × (r .kind ≤ 3) → Side (r .width) → Side (r .height) → Depth (r .depth) → r .count ≡ tileCount (r .width) (r .height)
-      → TilesRead f S (r .width) (r .height) (r .tiles) → RowRead f S r
-  row-read k w h d e t = record { kind = k; width = w; height = h; depth = d; count = e; end = t .end; pointers = rw e (t .pointers); passed = t .passed }
+      → PointersRead f S (tileCount (r .width) (r .height)) (r .tiles) → RowRead f S r
+  row-read k w h d e t = record { kind = k; width = w; height = h; depth = d; count = e; tiles = rw e t }
 
   -- what a hierarchy ends with
-  ensures-tiles : (width height : ℕ) → Ensures f S (TilesRead f S width height) (here >>= λ place. tiles pointerSize (tileCount width height) 0 >>= λ _. done place)
+  ensures-tiles : (count : ℕ) → Ensures f S (PointersRead f S count) (here >>= λ place. tiles pointerSize count 0 >>= λ _. done place)
   unfolding run PassedOver here
-  ensures-tiles width height = record {
+  ensures-tiles count = record {
     holds = λ at e s.
-        let walk = tiles pointerSize (tileCount width height) 0 in
+        let walk = tiles pointerSize count 0 in
         let t = parted walk (λ _. done at) f at e in
         rw (got-done f (t .place) (t .rest) .1) (record {
           end = t .place;
@@ -100,12 +98,12 @@ module _ {f : List ℕ} {S : ℕ → Type 0} where
         });
   }
 
-  ensures-hierarchy : (width height depth : ℕ) → Ensures f S (TilesRead f S width height) (hierarchy pointerSize width height depth)
+  ensures-hierarchy : (width height depth : ℕ) → Ensures f S (PointersRead f S (tileCount width height)) (hierarchy pointerSize width height depth)
   unfolding hierarchy
   ensures-hierarchy width height depth =
       ensures-next (agrees width) _ λ _. ensures-next (agrees height) _ λ _. ensures-next (agrees depth) _ λ _. ensures-next (pointer pointerSize) _ λ level.
       ensures-next (rest pointerSize) _ λ _. ensures-next (jump level) _ λ _. ensures-next (agrees width) _ λ _. ensures-next (agrees height) _ λ _.
-      ensures-tiles width height
+      ensures-tiles (tileCount width height)
 
   ensures-channel-rows : {most : ℕ} {rows : Rows} (o : Owner) → (1 ≤ o .kind) × (o .kind ≤ 3) → RowsRead f S most rows
       → Ensures f S (RowsRead f S (most + 1)) (channelRows pointerSize o rows)

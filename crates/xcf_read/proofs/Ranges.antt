@@ -16,6 +16,7 @@ use Rattle.xcf_walk.specs.Walk.{here, must}
 use Rattle.xcf_walk.specs.Fields.{number, word}
 use Rattle.xcf_walk.specs.Property.{imageList, layerList, allowed, property, put, propertyTurn, properties}
 use Rattle.xcf_tile.proofs.Cases.{by-cases}
+use Rattle.xcf_tile.proofs.Sizes.{within-bounds}
 use Rattle.xcf_read.specs.declared.drawable.Layer.{Layer}
 use Rattle.xcf_read.specs.declared.drawable.Owner.{Owner}
 use Rattle.xcf_read.specs.Header.{header}
@@ -33,10 +34,6 @@ pub record LayerInRange (x : Layer) : Type 0 where
   pub width : Side (x .width)
   pub height : Side (x .height)
   pub depth : Depth (depthOf (x .form))
-
-side-in-range : (n : ℕ) → sideOk n ≡ true → Side n
-unfolding sideOk
-side-in-range n e = let p = and-eq-true-iff (leb 1 n) (leb n 16384) .0 e in (leb-true 1 n (p .0), leb-true n 16384 (p .1))
 
 -- each number of a list is a depth
 abbrev Depths : List ℕ → Type 0
@@ -63,8 +60,8 @@ put-compression kind c p e h = go (eqb kind 17) e
 
 module _ {f : List ℕ} {S : ℕ → Type 0} where
   ensures-side : Ensures f S Side side
-  unfolding side
-  ensures-side = ensures-next here _ λ at. ensures-next word _ λ n. ensures-bind _ (ensures-must (sideOk n) 4 at) λ _ e. ensures-done (side-in-range n e)
+  unfolding side sideOk
+  ensures-side = ensures-next here _ λ at. ensures-next word _ λ n. ensures-bind _ (ensures-must (sideOk n) 4 at) λ _ e. ensures-done (within-bounds 1 16384 n e)
 
   ensures-side-like : (v : ℕ) → Ensures f S (λ _. Side v) (sideLike v)
   unfolding sideLike

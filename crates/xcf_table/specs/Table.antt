@@ -59,26 +59,9 @@ rowIn table at = record {
   owner = getD table (at + 15) 0;
 }
 
--- the numbers of a row that is not used
+-- a row that is not used: its numbers are 0
 abbrev pub unusedRow : Row
-unusedRow = record {
-  kind = 0;
-  width = 0;
-  height = 0;
-  depth = 0;
-  form = 0;
-  name = 0;
-  size = 0;
-  list = 0;
-  tiles = 0;
-  count = 0;
-  opacity = 0;
-  flags = 0;
-  dx = 0;
-  dy = 0;
-  mode = 0;
-  owner = 0;
-}
+unusedRow = rowIn [] 0
 
 -- row k of a table, or an unused row where the table has no such row
 unfoldable pub rowAt : List ℕ → ℕ → Row

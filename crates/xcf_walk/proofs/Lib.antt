@@ -12,3 +12,4 @@ pub mod RisingLoop
 pub mod Risen
 pub mod Ensures
 pub mod Passes
+pub mod Tails

@@ -1,4 +1,5 @@
--- The bounds that a caller needs of the cursors on its way: a live cursor came from a live one, by steps that were taken.
+-- The bounds that a caller needs of the cursors on its way: a live cursor came from a live one, by steps that were taken. A walk
+-- taken up by a cursor that starts at a place leads to one that says what the walk gives there (`led-refused`, `led-live`).
 -- Assumes nothing.
 use Prim.Native.Nat.{ℕ, _+_, _≤_, _<_}
 use mathlib.Core.Path.{_≡_, refl, sym, _∙_, ap}
@@ -16,7 +17,7 @@ use Rattle.xcf_walk.specs.Cursor.{checked, outcome, resume, Leads, Reads
 use Rattle.xcf_walk.proofs.Cases.{cond-same}
 use Rattle.xcf_walk.proofs.Walks.{got-not-refused, parted, got-done, got-bytes, got-here, got-must}
 use Rattle.xcf_walk.proofs.Advances.{Advances}
-use Rattle.xcf_walk.proofs.Resume.{is-live}
+use Rattle.xcf_walk.proofs.Resume.{is-live, is-refused}
 
 -- a walk that leads to a live cursor was taken
 module _ {A : Type 0} {c d : Cursor} {w : Walk A} {f : List ℕ} {a : A} (l : Leads c w f d a) (h : d .number ≡ 0) where
@@ -38,6 +39,15 @@ module _ {A : Type 0} {c d : Cursor} {w : Walk A} {f : List ℕ} {a : A} (l : Le
 -- so it moved on, where the walk passes over a byte
 pub moves-on : {A : Type 0} {c d : Cursor} {w : Walk A} {f : List ℕ} {a : A} → Advances w → Leads c w f d a → d .number ≡ 0 → (c .at < d .at) × (d .at ≤ length f)
 moves-on {c = c} {d = d} {f = f} {a = a} v l h = v .passes f (c .at) a (d .at) (live-run l h)
+
+-- from a cursor that starts at a place, a walk leads to what it gives there, a refusal or a value
+module _ {A : Type 0} {c d : Cursor} {at : ℕ} {w : Walk A} {f : List ℕ} {a : A} (s : c ≡ record { at = at; number = 0 }) (l : Leads c w f d a) where
+  pub led-refused : (d .number ≡ 0 → ⊥) → refused (d .number) (d .at) ≡ run w f at
+  unfolding outcome resume
+  led-refused h = sym (is-refused d (got a (d .at)) _ h) ∙ rw s at (l .gives)
+
+  pub led-live : d .number ≡ 0 → got a (d .at) ≡ run w f at
+  led-live h = rw s at (live-run l h)
 
 -- a number of so many bytes, and a word
 pub got-number : (size : ℕ) (f : List ℕ) (at : ℕ) {v q : ℕ} → got v q ≡ run (number size) f at → (q ≡ at + size) × (at + size ≤ length f) × (v ≡ bigEndian 0 (part f at size))

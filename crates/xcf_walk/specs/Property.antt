@@ -7,8 +7,8 @@ use lib.Dec.{leb, ltb, eqb}
 use Rattle.xcf_walk.specs.declared.property.Content.{Content}
 use Rattle.xcf_walk.specs.declared.property.Property.{Property}
 use Rattle.xcf_walk.specs.declared.property.Properties.{Properties}
-use Rattle.xcf_walk.specs.Walk.{Walk, done, bytes, here, must, part, Turn, more, last, loop, _>>=_, _>>_}
-use Rattle.xcf_walk.specs.Fields.{bigEndian, word}
+use Rattle.xcf_walk.specs.Walk.{Walk, done, bytes, here, must, Turn, more, last, loop, _>>=_, _>>_}
+use Rattle.xcf_walk.specs.Fields.{word, wordOf}
 
 -- whose list it is: the image's, or a drawable's by its row's kind
 abbrev pub imageList : ℕ
@@ -32,10 +32,6 @@ lengthOk kind n =
     cond (ltb kind (length lengths))
     (cond (eqb (getD lengths kind 0) any) true (eqb n (getD lengths kind 0)))
     true
-
--- the word at i of a payload; 0 where the payload is too short
-unfoldable pub wordOf : List ℕ → ℕ → ℕ
-wordOf b i = cond (leb (i + 4) (length b)) (bigEndian 0 (part b i 4)) 0
 
 -- a payload of n bytes: its only byte or its first word, and its second word
 unfoldable pub contentOf : List ℕ → Content

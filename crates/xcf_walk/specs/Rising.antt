@@ -11,10 +11,6 @@ use Rattle.xcf_walk.specs.Fields.{bigEndian}
 abbrev pub wordAt : List ℕ → ℕ → ℕ
 wordAt f at = bigEndian 0 (part f at 4)
 
--- the word at a place, or 0 where it does not lie in the file
-unfoldable pub wordIn : List ℕ → ℕ → ℕ
-wordIn f at = cond (leb (at + 4) (length f)) (wordAt f at) 0
-
 -- the word at a place lies in the file, above the one before and below the file's length
 abbrev pub rises : List ℕ → ℕ → ℕ → Bool
 rises f at before = leb (at + 4) (length f) && (ltb before (wordAt f at) && ltb (wordAt f at) (length f))

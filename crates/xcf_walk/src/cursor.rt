@@ -4,7 +4,7 @@ ghost use Prim.Native.Nat.{_+_, _-_, _≤_};
 ghost use lib.ListN.{length, getD};
 ghost use lib.Dec.{eqb};
 ghost use Rattle.xcf_walk.specs.Walk.{part};
-ghost use Rattle.xcf_walk.specs.Fields.{bigEndian, word, string};
+ghost use Rattle.xcf_walk.specs.Fields.{bigEndian, word, wordOf, string};
 ghost use Rattle.xcf_walk.specs.Cursor.{live, checked, jumped, skipped, Reads, noName};
 
 // A place in a file while the number is 0; else the first fault's number and place, which every further step keeps.
@@ -43,6 +43,19 @@ pub(crate) fn word_at(file: &[u8], at: usize) -> u32
         + wide(file[at + 1]) * 65536
         + wide(file[at + 2]) * 256
         + wide(file[at + 3])
+}
+
+// The word at a place, or 0 where it does not lie in the file.
+pub fn word_in(file: &[u8], at: usize) -> u32
+    ensures { λ r. ⌜ r ≡ wordOf (now (file .entry)) at ⌝ }
+{
+    if file.len() < 4 {
+        return 0;
+    }
+    if file.len() - 4 < at {
+        return 0;
+    }
+    word_at(file, at)
 }
 
 // Whether the last of n bytes is zero; of no bytes, and past the file's end, it counts as zero.

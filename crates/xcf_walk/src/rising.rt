@@ -2,26 +2,13 @@
 ghost use mathlib.Core.Path.{_≡_};
 ghost use Prim.Native.Nat.{_+_, _*_, _≤_, _<_};
 ghost use lib.ListN.{length};
-ghost use Rattle.xcf_walk.specs.Rising.{wordIn, rising};
+ghost use Rattle.xcf_walk.specs.Rising.{rising};
 use crate::cursor::word_at;
 
 // How many words rise, and the last of them.
 pub struct Rising {
     pub count: u32,
     pub last: u32,
-}
-
-// The word at a place, or 0 where it does not lie in the file.
-pub fn word_in(file: &[u8], at: usize) -> u32
-    ensures { λ r. ⌜ r ≡ wordIn (now (file .entry)) at ⌝ }
-{
-    if file.len() < 4 {
-        return 0;
-    }
-    if file.len() - 4 < at {
-        return 0;
-    }
-    word_at(file, at)
 }
 
 // How many words from a place on lie in the file, at most n.

@@ -1,4 +1,4 @@
--- `print_cases` is safe and ends: at most 63 cases are listed, and no buffer changes its length.
+-- `print_cases` is safe and ends: at most 64 cases are listed, and no buffer changes its length.
 use mathlib.Core.Path.{_≡_}
 use Prim.Native.Nat.{_≤_, _-_}
 use borrow.Author.Needs.{needs}
@@ -8,10 +8,10 @@ use Rattle.xcf_list_cases.proofs.print_cases.Tie as tie
 
 abbrev Inv-loop : tie.InvT-loop
 Inv-loop name₀ input₀ table₀ text₀ i₀ name input table text i =
-    (i ≤ 64) × (length name ≡ length name₀) × (length input ≡ length input₀) × (length table ≡ length table₀) × (length text ≡ length text₀)
+    (i ≤ 65) × (length name ≡ length name₀) × (length input ≡ length input₀) × (length table ≡ length table₀) × (length text ≡ length text₀)
 
 abbrev μ-loop : tie.MeasureT-loop
-μ-loop name₀ input₀ table₀ text₀ i₀ name input table text i = 64 - i
+μ-loop name₀ input₀ table₀ text₀ i₀ name input table text i = 65 - i
 
 loop-holds : tie.Need-loop-holds Inv-loop μ-loop
 loop-holds c = search needs

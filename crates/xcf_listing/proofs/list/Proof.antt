@@ -1,4 +1,5 @@
--- `list` meets its contract: what is put is the listing, by the laws of `Listed`; an accepted file has at most 128 rows, whose lines fit the text.
+-- `list` meets its contract: what is put is the listing, by the laws of `Listed`; an accepted file has at most 128 rows, whose lines fit
+-- the text.
 use native.Mathlib.Omega.{arith}
 use borrow.Author.Needs.{needs}
 use Rattle.xcf_listing.proofs.Written.{puts-then}
@@ -24,9 +25,11 @@ same-length c = search needs
 
 returns-2 : tie.Need-returns-2
 returns-2 c =
-    let start = c .before .before .before .before .before .before .before .before .before in
+    let long = c .before .before .before .before in
+    let start = long .before .before .before .before .before in
     lists-counted
-    (lists-long (start .args .limit) (start .args .file .now) (start .args .table .now) (start .args .text .now) (c .before .before .before .before .before .if1 .left) (c .before .before .before .before .if2 .taken) (c .before .before .put-refusal .ensures))
+    (lists-long (start .args .limit) (start .args .file .now) (start .args .table .now) (start .args .text .now)
+    (long .before .if1 .left) (long .if2 .taken) (c .before .before .put-refusal .ensures))
 
 read-requires : tie.Need-read-requires
 read-requires c κs = search needs
@@ -42,9 +45,13 @@ same-length-3 c = search needs
 
 returns-3 : tie.Need-returns-3
 returns-3 c =
-    let start = c .before .before .before .before .before .before .before .before .before .before .before .before .before .before .before in
+    let refused = c .before .before .before .before in
+    let read = refused .before .before .before .before in
+    let short = read .before .before in
+    let start = short .before .before .before .before .before in
     lists-counted
-    (lists-refused (start .args .limit) (start .args .file .now) (start .args .table .now) (start .args .text .now) (c .before .before .before .before .before .before .before .before .before .before .before .if1 .left) (c .before .before .before .before .before .before .before .before .before .before .if2 .left) (c .before .before .before .before .before .before .before .before .read .ensures) (c .before .before .before .before .if3 .taken) (c .before .before .put-refusal2 .ensures))
+    (lists-refused (start .args .limit) (start .args .file .now) (start .args .table .now) (start .args .text .now)
+    (short .before .if1 .left) (short .if2 .left) (read .read .ensures) (refused .if3 .taken) (c .before .before .put-refusal2 .ensures))
 
 put-canvas-requires : tie.Need-put-canvas-requires
 put-canvas-requires c κs = search needs
@@ -57,9 +64,11 @@ cast-put-rows-2 c = omega (arith, accepted (c .before .before .before .before .b
 
 put-rows-requires : tie.Need-put-rows-requires
 put-rows-requires c κs =
-    let a = accepted (c .before .before .before .before .before .before .before .before) in
+    let left = c .before .before .before .before .before .before .before .before in
+    let a = accepted left in
     let put = c .before .before .before .before .before .before .put-canvas .ensures in
-    (omega (arith, a .few, put .behind, put .few, c .before .before .before .before .before .before .before .before .before .before .before .before .before .before .before .if1 .left), omega (arith, a .few, a .size))
+    let room = left .before .before .before .before .before .before .before .if1 .left in
+    (omega (arith, a .few, put .behind, put .few, room), omega (arith, a .few, a .size))
 
 same-length-4 : tie.Need-same-length-4
 same-length-4 c = search needs
@@ -69,11 +78,16 @@ same-length-5 c = search needs
 
 returns-4 : tie.Need-returns-4
 returns-4 c =
-    let start = c .before .before .before .before .before .before .before .before .before .before .before .before .before .before .before .before .before .before .before .before .before .before in
-    let room = c .before .before .before .before .before .before .before .before .before .before .before .before .before .before .before .before .before .before .if1 .left in
-    let put = puts-then (c .before .before .before .before .before .before .before .before .before .put-canvas .ensures) (omega (arith, room, accepted (c .before .before .before .before .before .before .before .before .before .before .before) .few)) λ r. c .before .before .put-rows .ensures in
+    let canvas = c .before .before .before .before .before .before .before .before .before in
+    let left = canvas .before .before in
+    let read = left .before .before .before .before in
+    let short = read .before .before in
+    let start = short .before .before .before .before .before in
+    let room = short .before .if1 .left in
+    let put = puts-then (canvas .put-canvas .ensures) (omega (arith, room, accepted left .few)) λ r. c .before .before .put-rows .ensures in
     lists-counted
-    (lists-accepted (start .args .limit) (start .args .file .now) (start .args .table .now) (start .args .text .now) room (c .before .before .before .before .before .before .before .before .before .before .before .before .before .before .before .before .before .if2 .left) (c .before .before .before .before .before .before .before .before .before .before .before .before .before .before .before .read .ensures) (c .before .before .before .before .before .before .before .before .before .before .before .if3 .left) put)
+    (lists-accepted (start .args .limit) (start .args .file .now) (start .args .table .now) (start .args .text .now) room
+    (short .if2 .left) (read .read .ensures) (left .if3 .left) put)
 
 pub list-spec : {M : Type 1} → statement M
 list-spec =

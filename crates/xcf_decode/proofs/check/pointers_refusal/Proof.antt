@@ -1,8 +1,8 @@
 -- `pointers_refusal` meets its contract: the cursor that the walk over the pointers leads to says what the walk gives.
 use mathlib.Core.Path.{ap, _∙_}
 use borrow.Author.Needs.{needs}
+use Rattle.xcf_walk.proofs.Within.{led-refused, led-live}
 use Rattle.xcf_decode.specs.Answer.{pointersRefusal}
-use Rattle.xcf_decode.proofs.Led.{led-refused, led-live}
 use Rattle.xcf_decode.proofs.check.pointers_refusal.Statement.{statement}
 use Rattle.xcf_decode.proofs.check.pointers_refusal.Tie as tie
 

@@ -1,4 +1,4 @@
--- `decode_one` meets its contract: the window lies in the file, the pixels fit the scratch, and the decoding gives the tile's (`scratched`).
+-- `decode_one` meets its contract: the window lies in the file, the pixels fit the scratch, and what the decoding gives is the tile's.
 use Prim.Native.Nat.{_*_, _≤_, _<_}
 use mathlib.Core.Path.{sym}
 use native.Mathlib.Omega.{arith}
@@ -11,7 +11,7 @@ use Rattle.xcf_decode.proofs.TilePointers.{window-inside}
 use Rattle.xcf_decode.proofs.tile.decode_one.Statement.{statement}
 use Rattle.xcf_decode.proofs.tile.decode_one.Tie as tie
 
-pixels-fit : (s : tie.Start) → (s .args .spot .width * s .args .spot .height ≤ 4096) × (s .args .spot .width * s .args .spot .height * s .args .row .depth ≤ 16384)
+pixels-fit : (s : tie.Start) → (s .args .frame .width * s .args .frame .height ≤ 4096) × (s .args .frame .width * s .args .frame .height * s .args .row .depth ≤ 16384)
 pixels-fit s = let p = s .pre in pixels-small (p .0) (p .1 .0) (p .1 .1)
 
 window-in-file : (w : tie.After-window-end) → (w .before .pointer-at .result < w .window-end .result) × (w .window-end .result ≤ length (w .before .before .before .before .args .file .now))

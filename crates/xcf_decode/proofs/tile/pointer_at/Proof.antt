@@ -5,7 +5,7 @@ use native.Mathlib.Omega.{arith}
 use borrow.Author.Needs.{needs}
 use borrow.Author.Tests.{le-leb}
 use lib.ListN.{length}
-use Rattle.xcf_walk.specs.Rising.{wordIn}
+use Rattle.xcf_walk.specs.Fields.{wordOf}
 use Rattle.xcf_decode.specs.Window.{pointerAt}
 use Rattle.xcf_decode.proofs.tile.pointer_at.Statement.{statement}
 use Rattle.xcf_decode.proofs.tile.pointer_at.Tie as tie
@@ -26,7 +26,7 @@ cast-result : tie.Need-cast-result
 cast-result c = search needs
 
 returns : tie.Need-returns
-unfolding pointerAt wordIn
+unfolding pointerAt wordOf
 returns c =
     let b = c .before .before .before in
     let a = b .args in

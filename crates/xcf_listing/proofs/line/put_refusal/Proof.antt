@@ -2,6 +2,7 @@
 use native.Mathlib.Omega.{arith}
 use borrow.Author.Needs.{needs}
 use Rattle.xcf_listing.specs.Listing.{refusedLine}
+use Rattle.xcf_listing.specs.Parts.{lineSize}
 use Rattle.xcf_listing.proofs.Written.{puts-few, puts-then}
 use Rattle.xcf_listing.proofs.line.put_refusal.Statement.{statement}
 use Rattle.xcf_listing.proofs.line.put_refusal.Tie as tie
@@ -36,13 +37,18 @@ same-length c = search needs
 returns : tie.Need-returns
 unfolding refusedLine
 returns c =
+    let fifth = c .before .before in
+    let fourth = fifth .before .before .before .before .before in
+    let third = fourth .before .before .before .before in
+    let second = third .before .before .before .before .before in
+    let first = second .before .before .before .before in
     puts-few
-    (puts-then (c .before .before .before .before .before .before .before .before .before .before .before .before .before .before .before .before .before .before .before .before .put-bytes .ensures) (omega arith) λ r.
-    puts-then (c .before .before .before .before .before .before .before .before .before .before .before .before .before .before .before .before .put-spaced .ensures) r λ r.
-    puts-then (c .before .before .before .before .before .before .before .before .before .before .before .put-bytes2 .ensures) r λ r.
-    puts-then (c .before .before .before .before .before .before .before .put-spaced2 .ensures) r λ r.
-    c .before .before .put-bytes3 .ensures)
-    400 (omega arith)
+    (puts-then (first .put-bytes .ensures) (omega arith) λ r.
+    puts-then (second .put-spaced .ensures) r λ r.
+    puts-then (third .put-bytes2 .ensures) r λ r.
+    puts-then (fourth .put-spaced2 .ensures) r λ r.
+    fifth .put-bytes3 .ensures)
+    lineSize (omega arith)
 
 pub put-refusal-spec : {M : Type 1} → statement M
 put-refusal-spec =

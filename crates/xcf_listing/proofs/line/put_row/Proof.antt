@@ -1,7 +1,9 @@
--- `put_row` meets its contract: its parts stand one behind the other, by `puts-then`; the row's kind and fields are those that the table has there.
+-- `put_row` meets its contract: its parts stand one behind the other, by `puts-then`; the row's kind and fields are those that the
+-- table has there.
 use lib.ListN.{length-take}
 use native.Mathlib.Omega.{arith}
 use borrow.Author.Needs.{needs}
+use Rattle.xcf_listing.specs.Parts.{lineSize}
 use Rattle.xcf_listing.proofs.Row.{row-line}
 use Rattle.xcf_listing.proofs.Written.{puts-few, puts-then}
 use Rattle.xcf_listing.proofs.line.put_row.Statement.{statement}
@@ -63,16 +65,22 @@ same-length c = search needs
 
 returns : tie.Need-returns
 returns c =
-    let start = c .before .before .before .before .before .before .before .before .before .before .before .before .before .before .before .before .before .before .before .before .before .before .before .before .before .before .before .before .before .before in
+    let sixth = c .before .before in
+    let fifth = sixth .before .before .before .before .before in
+    let fourth = fifth .before .before .before .before in
+    let third = fourth .before .before .before .before .before in
+    let second = third .before .before .before .before .before in
+    let first = second .before .before .before .before .before in
+    let start = first .before .before .before .before in
     rw (row-line (start .args .table .now) (start .args .k) (start .args .marked) (start .pre .1))
     (puts-few
-    (puts-then (c .before .before .before .before .before .before .before .before .before .before .before .before .before .before .before .before .before .before .before .before .before .before .before .before .before .before .put-decimal .ensures) (simp length-take (omega arith)) λ r.
-    puts-then (c .before .before .before .before .before .before .before .before .before .before .before .before .before .before .before .before .before .before .before .before .before .put-kind .ensures) r λ r.
-    puts-then (c .before .before .before .before .before .before .before .before .before .before .before .before .before .before .before .before .put-all .ensures) r λ r.
-    puts-then (c .before .before .before .before .before .before .before .before .before .before .before .put-bytes .ensures) r λ r.
-    puts-then (c .before .before .before .before .before .before .before .put-spaced .ensures) r λ r.
-    c .before .before .put-bytes2 .ensures)
-    400 (simp length-take (omega arith)))
+    (puts-then (first .put-decimal .ensures) (simp length-take (omega arith)) λ r.
+    puts-then (second .put-kind .ensures) r λ r.
+    puts-then (third .put-all .ensures) r λ r.
+    puts-then (fourth .put-bytes .ensures) r λ r.
+    puts-then (fifth .put-spaced .ensures) r λ r.
+    sixth .put-bytes2 .ensures)
+    lineSize (simp length-take (omega arith)))
 
 pub put-row-spec : {M : Type 1} → statement M
 put-row-spec =

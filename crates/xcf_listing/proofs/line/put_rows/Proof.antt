@@ -1,18 +1,19 @@
--- `put_rows` meets its contract: the loop's invariant is that the lines of the rows passed are put in a text as long as it was; a turn is `rows-turn`.
+-- `put_rows` meets its contract: the loop's invariant is that the lines of the rows passed are put in a text as long as it was; a turn
+-- is `rows-turn`.
 use mathlib.Core.Path.{_≡_, ap}
 use Prim.Native.Nat.{_*_, _-_, _≤_}
 use native.Mathlib.Omega.{arith}
 use borrow.Author.Needs.{needs}
 use lib.ListN.{length}
 use Rattle.xcf_listing.specs.Listing.{rowLines}
-use Rattle.xcf_listing.specs.Parts.{Puts}
+use Rattle.xcf_listing.specs.Parts.{lineSize, Puts}
 use Rattle.xcf_listing.proofs.Row.{rows-start, rows-turn}
 use Rattle.xcf_listing.proofs.line.put_rows.Statement.{statement}
 use Rattle.xcf_listing.proofs.line.put_rows.Tie as tie
 
 abbrev Inv-loop : tie.InvT-loop
 Inv-loop file table compression rows text₀ at next₀ k₀ text next k =
-    (k ≤ rows) × ((length text ≡ length text₀) × Puts text₀ at (rowLines file table compression 0 k) (400 * k) next text)
+    (k ≤ rows) × ((length text ≡ length text₀) × Puts text₀ at (rowLines file table compression 0 k) (lineSize * k) next text)
 
 abbrev μ-loop : tie.MeasureT-loop
 μ-loop file table compression rows text₀ at next₀ k₀ text next k = rows - k
@@ -36,7 +37,11 @@ loop-again : tie.Need-loop-again Inv-loop μ-loop
 loop-again c =
     let turn = c .before .before .before .before .before in
     let start = turn .before .before .before .before .before in
-    let next = rows-turn (start .args .file .now) (start .args .table .now) (start .args .compression) (turn .before .loop .k) (turn .before .loop .inv .1 .1) (omega arith) (ap (λ a. a .marked) (c .before .before .before .before .count-marked .ensures)) (c .before .before .put-row .ensures) in
+    let head = turn .before .loop in
+    let marked = ap (λ a. a .marked) (c .before .before .before .before .count-marked .ensures) in
+    let next =
+    rows-turn (start .args .file .now) (start .args .table .now) (start .args .compression) (head .k) (head .inv .1 .1) (omega arith)
+    marked (c .before .before .put-row .ensures) in
     (search needs, (search needs, next))
 
 same-length : tie.Need-same-length Inv-loop μ-loop

@@ -1,4 +1,5 @@
--- `put_all` meets its contract: the loop's invariant is that the numbers passed are put in a text as long as it was; a turn is `spaced-turn`.
+-- `put_all` meets its contract: the loop's invariant is that the numbers passed are put in a text as long as it was; a turn is
+-- `spaced-turn`.
 use mathlib.Core.Path.{_≡_}
 use Prim.Native.Nat.{_*_, _-_, _≤_}
 use native.Mathlib.Omega.{arith}
@@ -42,7 +43,10 @@ loop-again : tie.Need-loop-again Inv-loop μ-loop
 loop-again c =
     let turn = c .before .before .before .before .before .before in
     let start = turn .before .before .before .before in
-    let next = spaced-turn (start .args .numbers .now) (turn .before .loop .i) (turn .before .loop .inv .1 .1) (turn .loop-test .taken) (start .pre) (c .before .before .before .wide .ensures) (c .before .before .put-spaced .ensures) in
+    let head = turn .before .loop in
+    let next =
+    spaced-turn (start .args .numbers .now) (head .i) (head .inv .1 .1) (turn .loop-test .taken) (start .pre)
+    (c .before .before .before .wide .ensures) (c .before .before .put-spaced .ensures) in
     (search needs, (search needs, next))
 
 same-length : tie.Need-same-length Inv-loop μ-loop

@@ -25,7 +25,7 @@ same-length c = search needs
 returns : tie.Need-returns
 returns c =
     let start = c .before .before .before .before .before .before in
-    puts-copy (start .args .text .now) (start .args .at) (start .args .bytes .now) (start .pre) _ (c .before .before .copy .ensures .1)
+    puts-copy (start .args .text .now) (start .args .at) (start .args .bytes .now) _ (c .before .before .copy .ensures .1)
 
 pub put-bytes-spec : {M : Type 1} → statement M
 put-bytes-spec =

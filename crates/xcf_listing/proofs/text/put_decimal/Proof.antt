@@ -12,7 +12,9 @@ use Rattle.xcf_listing.proofs.text.put_decimal.Tie as tie
 
 -- what io::decimal made
 few : (c : tie.After-decimal) → c .decimal .result ≤ 20
-few c = few-digits (c .before .before .before .args .n) (c .decimal .result) (c .decimal .ensures .1 .0) (c .before .before .before .fits .n .fits)
+few c =
+    let start = c .before .before .before in
+    few-digits (start .args .n) (c .decimal .result) (c .decimal .ensures .1 .0) (start .fits .n .fits)
 
 made : (c : tie.After-decimal) → take (c .decimal .result) (c .decimal .last .1 .0) ≡ decimal (c .before .before .before .args .n)
 made c = c .decimal .ensures .1 .1 ∙ fewest-decimal _ _ (c .decimal .ensures .1 .0)
@@ -34,7 +36,8 @@ same-length c = search needs
 
 returns : tie.Need-returns
 returns c =
-    rw (made (c .before .before .before .before .before)) at (puts-few (c .before .before .put-bytes .ensures) 20 (simp length-take (omega (arith, few (c .before .before .before .before .before)))))
+    let made-at = c .before .before .before .before .before in
+    rw (made made-at) at (puts-few (c .before .before .put-bytes .ensures) 20 (simp length-take (omega (arith, few made-at))))
 
 pub put-decimal-spec : {M : Type 1} → statement M
 put-decimal-spec =

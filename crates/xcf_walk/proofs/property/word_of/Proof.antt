@@ -1,6 +1,6 @@
 -- `word_of` meets its contract, by whether the word lies in the payload; its bytes there are a part of the file's.
 use borrow.Author.Tests.{le-leb, lt-leb}
-use Rattle.xcf_walk.specs.Property.{wordOf}
+use Rattle.xcf_walk.specs.Fields.{wordOf}
 use Rattle.xcf_walk.proofs.Parts.{part-length, part-part}
 use borrow.Author.Needs.{needs}
 use Rattle.xcf_walk.proofs.property.word_of.Statement.{statement}

@@ -3,13 +3,13 @@ use Prim.Native.Nat.{_+_}
 use native.Mathlib.Omega.{arith}
 use borrow.Author.Tests.{le-leb, lt-leb}
 use lib.ListN.{length}
-use Rattle.xcf_walk.specs.Rising.{wordIn}
+use Rattle.xcf_walk.specs.Fields.{wordOf}
 use borrow.Author.Needs.{needs}
-use Rattle.xcf_walk.proofs.rising.word_in.Statement.{statement}
-use Rattle.xcf_walk.proofs.rising.word_in.Tie as tie
+use Rattle.xcf_walk.proofs.cursor.word_in.Statement.{statement}
+use Rattle.xcf_walk.proofs.cursor.word_in.Tie as tie
 
 returns : tie.Need-returns
-unfolding wordIn
+unfolding wordOf
 returns c =
     let a = c .before .before .args in rw (lt-leb (a .at + 4) (length (a .file .now)) (omega arith))
 
@@ -17,7 +17,7 @@ sub-if2 : tie.Need-sub-if2
 sub-if2 c = search needs
 
 returns-2 : tie.Need-returns-2
-unfolding wordIn
+unfolding wordOf
 returns-2 c =
     let a = c .before .before .before .args in rw (lt-leb (a .at + 4) (length (a .file .now)) (omega arith))
 
@@ -25,7 +25,7 @@ word-at-requires : tie.Need-word-at-requires
 word-at-requires c κs = search needs
 
 returns-3 : tie.Need-returns-3
-unfolding wordIn
+unfolding wordOf
 returns-3 c =
     let a = c .before .before .before .before .args in
     rw (le-leb (a .at + 4) (length (a .file .now)) (omega arith)) (c .word-at .ensures)
