@@ -6,7 +6,7 @@ use mathlib.Core.Path.{_≡_, refl, sym, _∙_}
 use mathlib.Core.List.{List, [], _∷_, _++_}
 use mathlib.Core.Bool.{Bool, true, false}
 use native.Mathlib.Omega.{arith}
-use borrow.Author.Tests.{eq-eqb, eqb-true, eqb-false}
+use borrow.Author.Tests.{eqb-true, eqb-false}
 use lib.Dec.{eqb}
 use lib.ListN.{length, getD, replicate}
 use lib.Seq.{getD-set-other}
@@ -30,6 +30,7 @@ use Rattle.xcf_decode.specs.Isolation.{rowOf, InChosen, IsTile, Damaged}
 use Rattle.xcf_decode.proofs.RowDecoded.{row-decoded}
 use Rattle.xcf_decode.proofs.SameBytes.{read-same}
 use Rattle.xcf.specs.DamagedExample.{wideFile, damagedFile, FirstTile, DamagedExample}
+use Rattle.xcf.proofs.ExampleRead.{read-walked}
 
 -- what the reader gives for the wide file
 abbrev wideRow : List ℕ
@@ -50,8 +51,8 @@ unfolding run bytes here must fileLength jump loop turns bigEndian number word s
 walked = refl
 
 wide-read : (lent : List ℕ) → length lent ≡ tableSize → reading wideFile lent ≡ given
-unfolding reading tableOf
-wide-read lent size = rw (eq-eqb _ _ size, walked)
+unfolding tableOf
+wide-read lent size = read-walked wideFile lent size (omega arith) walked
 
 differ-at : (i : ℕ) → (getD wideFile i 0 ≡ getD damagedFile i 0 → ⊥) → i ≡ 145
 differ-at i differs = go (eqb i 145) refl

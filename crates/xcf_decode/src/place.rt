@@ -30,12 +30,8 @@ pub(crate) fn put_tile(row: Row, frame: Frame, tile: &[u8], pixels: &mut [u8])
     let depth = row.depth as usize;
     let width = row.width as usize;
     let first = 64 * (width * frame.line as usize + frame.column as usize);
-    put_lines(
-        tile,
-        depth * frame.width as usize,
-        frame.height,
-        pixels,
-        depth * first,
-        depth * width,
-    );
+    let at = depth * first;
+    let line = depth * frame.width as usize;
+    let stride = depth * width;
+    put_lines(tile, line, frame.height, pixels, at, stride);
 }

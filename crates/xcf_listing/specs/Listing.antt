@@ -48,15 +48,10 @@ bad = 32 ∷ 98 ∷ 97 ∷ 100 ∷ []
 unfoldable pub refusedLine : ℕ → ℕ → List ℕ
 refusedLine n p = refused ++ (spaced n ++ (at ++ (spaced p ++ newline)))
 
--- the canvas's sides and base, then the rest of its line
-unfoldable pub canvasSides : ReadAnswer → List ℕ
-canvasSides a = canvas ++ (spaced (a .width) ++ (spaced (a .height) ++ (base ++ spaced (a .base))))
-
-unfoldable pub canvasRest : ReadAnswer → List ℕ
-canvasRest a = version ++ (spaced (a .version) ++ (compression ++ (spaced (a .compression) ++ (rows ++ (spaced (a .rows) ++ newline)))))
-
 unfoldable pub canvasLine : ReadAnswer → List ℕ
-canvasLine a = canvasSides a ++ canvasRest a
+canvasLine a =
+    canvas ++ (spaced (a .width) ++ (spaced (a .height) ++ (base ++ (spaced (a .base) ++ (version ++ (spaced (a .version)
+    ++ (compression ++ (spaced (a .compression) ++ (rows ++ (spaced (a .rows) ++ newline))))))))))
 
 -- 1 layer, 2 mask, 3 channel
 unfoldable pub kindName : ℕ → List ℕ

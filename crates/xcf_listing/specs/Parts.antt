@@ -1,9 +1,12 @@
 -- The parts of the private functions' contracts, by name.
 use Prim.Native.Nat.{ℕ, _+_, _≤_}
 use mathlib.Core.Path.{_≡_}
-use mathlib.Core.List.{List}
+use mathlib.Core.List.{List, _++_}
 use lib.ListN.{length}
 use lib.Seq.{paste}
+use Rattle.xcf_read.specs.declared.ReadAnswer.{ReadAnswer}
+use Rattle.xcf_listing.specs.Text.{newline, spaced}
+use Rattle.xcf_listing.specs.Listing.{canvas, base, version, compression, rows}
 
 -- room for any line, and for half of one
 abbrev pub lineSize : ℕ
@@ -17,3 +20,10 @@ pub record Puts (old : List ℕ) (at : ℕ) (bs : List ℕ) (most r : ℕ) (new 
   pub behind : r ≡ at + length bs
   pub few : length bs ≤ most
   pub text : new ≡ paste old at bs (length bs)
+
+-- a canvas's line in two halves: its sides and base, and the rest
+unfoldable pub canvasSides : ReadAnswer → List ℕ
+canvasSides a = canvas ++ (spaced (a .width) ++ (spaced (a .height) ++ (base ++ spaced (a .base))))
+
+unfoldable pub canvasRest : ReadAnswer → List ℕ
+canvasRest a = version ++ (spaced (a .version) ++ (compression ++ (spaced (a .compression) ++ (rows ++ (spaced (a .rows) ++ newline)))))

@@ -2,8 +2,8 @@
 ghost use Prim.Native.Nat.{_+_, _*_, _≤_};
 ghost use lib.ListN.{length};
 ghost use Rattle.xcf_table.specs.Table.{rowSize};
-ghost use Rattle.xcf_listing.specs.Listing.{refusedLine, canvasSides, canvasRest, canvasLine, kindName, rowLine, rowLines};
-ghost use Rattle.xcf_listing.specs.Parts.{lineSize, halfSize, Puts};
+ghost use Rattle.xcf_listing.specs.Listing.{refusedLine, canvasLine, kindName, rowLine, rowLines};
+ghost use Rattle.xcf_listing.specs.Parts.{lineSize, halfSize, canvasSides, canvasRest, Puts};
 use crate::text::put_all;
 use crate::text::put_bytes;
 use crate::text::put_decimal;

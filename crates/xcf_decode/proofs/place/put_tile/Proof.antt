@@ -27,17 +27,17 @@ add-first c = omega (arith, frame-small (c .before .before .before .before .befo
 mul-first-2 : tie.Need-mul-first-2
 mul-first-2 c = omega (arith, frame-small (c .before .before .before .before .before .before .pre))
 
-cast-put-lines : tie.Need-cast-put-lines
-cast-put-lines c = search needs
+mul-at : tie.Need-mul-at
+mul-at c = omega (arith, frame-small (c .before .before .before .before .before .before .pre))
 
-mul-put-lines : tie.Need-mul-put-lines
-mul-put-lines c = omega (arith, frame-small (c .before .before .before .before .before .before .before .pre))
+cast-line : tie.Need-cast-line
+cast-line c = search needs
 
-mul-put-lines-2 : tie.Need-mul-put-lines-2
-mul-put-lines-2 c = omega (arith, frame-small (c .before .before .before .before .before .before .before .before .pre))
+mul-line : tie.Need-mul-line
+mul-line c = omega (arith, frame-small (c .before .before .before .before .before .before .before .pre))
 
-mul-put-lines-3 : tie.Need-mul-put-lines-3
-mul-put-lines-3 c = omega (arith, frame-small (c .before .before .before .before .before .before .before .before .pre))
+mul-stride : tie.Need-mul-stride
+mul-stride c = omega (arith, frame-small (c .before .before .before .before .before .before .before .pre))
 
 put-lines-requires : tie.Need-put-lines-requires
 put-lines-requires c κs = frame-room _ _ (c .before .before .before .before .before .before .before .before .pre)
@@ -60,10 +60,10 @@ put-tile-spec =
     cast-first-2
     add-first
     mul-first-2
-    cast-put-lines
-    mul-put-lines
-    mul-put-lines-2
-    mul-put-lines-3
+    mul-at
+    cast-line
+    mul-line
+    mul-stride
     put-lines-requires
     same-length
     returns)

@@ -1,7 +1,11 @@
 -- `put_canvas` meets its contract: the rest of the line behind the sides and the base, by `puts-then`.
+use mathlib.Core.Path.{_≡_}
+use mathlib.Core.List.{_++_, append-assoc}
 use native.Mathlib.Omega.{arith}
 use borrow.Author.Needs.{needs}
+use Rattle.xcf_read.specs.declared.ReadAnswer.{ReadAnswer}
 use Rattle.xcf_listing.specs.Listing.{canvasLine}
+use Rattle.xcf_listing.specs.Parts.{canvasSides, canvasRest}
 use Rattle.xcf_listing.proofs.Written.{puts-then}
 use Rattle.xcf_listing.proofs.line.put_canvas.Statement.{statement}
 use Rattle.xcf_listing.proofs.line.put_canvas.Tie as tie
@@ -15,12 +19,17 @@ put-rest-requires c κs = search needs
 same-length : tie.Need-same-length
 same-length c = search needs
 
+-- the two halves are the line
+halves : (a : ReadAnswer) → canvasSides a ++ canvasRest a ≡ canvasLine a
+unfolding canvasSides canvasRest canvasLine
+halves a = simp append-assoc
+
 returns : tie.Need-returns
-unfolding canvasLine
 returns c =
     let rest = c .before .before in
     let sides = rest .before .before .before .before in
-    puts-then (sides .put-sides .ensures) (omega arith) λ r. rest .put-rest .ensures
+    rw (← halves _)
+    (puts-then (sides .put-sides .ensures) (omega arith) λ r. rest .put-rest .ensures)
 
 pub put-canvas-spec : {M : Type 1} → statement M
 put-canvas-spec = tie.close (tie.spec put-sides-requires put-rest-requires same-length returns)

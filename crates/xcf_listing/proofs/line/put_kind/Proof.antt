@@ -19,7 +19,7 @@ same-length c = search needs
 returns : tie.Need-returns
 unfolding kindName
 returns c =
-    rw (eq-eqb _ _ (c .before .before .before .before .before .if1 .taken)) (puts-few (c .before .before .put-bytes .ensures) 8 (omega arith))
+    rw (eq-eqb _ 1 (c .before .before .before .before .before .if1 .taken)) (puts-few (c .before .before .put-bytes .ensures) 8 (omega arith))
 
 slice-aggregate-put-bytes-2 : tie.Need-slice-aggregate-put-bytes-2
 slice-aggregate-put-bytes-2 c = search needs
@@ -34,7 +34,7 @@ returns-2 : tie.Need-returns-2
 unfolding kindName
 returns-2 c =
     let test = c .before .before .before .before .before in
-    rw (ne-eqb _ _ (test .before .if1 .left), eq-eqb _ _ (test .if2 .taken)) (puts-few (c .before .before .put-bytes2 .ensures) 8 (omega arith))
+    rw (ne-eqb _ 1 (test .before .if1 .left), eq-eqb _ 2 (test .if2 .taken)) (puts-few (c .before .before .put-bytes2 .ensures) 8 (omega arith))
 
 slice-aggregate-put-bytes-3 : tie.Need-slice-aggregate-put-bytes-3
 slice-aggregate-put-bytes-3 c = search needs
@@ -49,7 +49,7 @@ returns-3 : tie.Need-returns-3
 unfolding kindName
 returns-3 c =
     let test = c .before .before .before .before .before in
-    rw (ne-eqb _ _ (test .before .if1 .left), ne-eqb _ _ (test .if2 .left)) (puts-few (c .before .before .put-bytes3 .ensures) 8 (omega arith))
+    rw (ne-eqb _ 1 (test .before .if1 .left), ne-eqb _ 2 (test .if2 .left)) (puts-few (c .before .before .put-bytes3 .ensures) 8 (omega arith))
 
 pub put-kind-spec : {M : Type 1} → statement M
 put-kind-spec =

@@ -1,7 +1,7 @@
 -- `put_rest` meets its contract: its parts stand one behind the other, by `puts-then`, and there is room for all.
 use native.Mathlib.Omega.{arith}
 use borrow.Author.Needs.{needs}
-use Rattle.xcf_listing.specs.Listing.{canvasRest}
+use Rattle.xcf_listing.specs.Parts.{canvasRest}
 use Rattle.xcf_listing.specs.Parts.{halfSize}
 use Rattle.xcf_listing.proofs.Written.{puts-few, puts-then}
 use Rattle.xcf_listing.proofs.line.put_rest.Statement.{statement}

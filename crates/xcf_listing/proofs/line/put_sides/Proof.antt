@@ -1,7 +1,7 @@
 -- `put_sides` meets its contract: its parts stand one behind the other, by `puts-then`, and there is room for all.
 use native.Mathlib.Omega.{arith}
 use borrow.Author.Needs.{needs}
-use Rattle.xcf_listing.specs.Listing.{canvasSides}
+use Rattle.xcf_listing.specs.Parts.{canvasSides}
 use Rattle.xcf_listing.specs.Parts.{halfSize}
 use Rattle.xcf_listing.proofs.Written.{puts-few, puts-then}
 use Rattle.xcf_listing.proofs.line.put_sides.Statement.{statement}
