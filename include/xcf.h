@@ -1,16 +1,17 @@
-/* XCF files, read; their drawables, decoded; XCF tiles, decoded and encoded. Every function ends, touches only what it is
- * lent, and answers by value.
+/* XCF files, read and written; their drawables, decoded; XCF tiles, decoded and encoded. Every function ends, touches only
+ * what it is lent, and answers by value.
  *
  * A pointer is never NULL, also where its length is 0; a buffer that is written overlaps no other. Nothing else is asked of
  * a caller: any bytes and any numbers may be lent.
  *
  * number is 0, or says why the call was refused; a refusal leaves every buffer as lent, unless said otherwise, and its other
- * fields are 0. place is where in the file the fault stands: 0 for tiles.
+ * fields are 0. place is where in the file the fault stands, or would stand if it were written: 0 for tiles, and the number
+ * of the row for 17.
  *    1  a field or payload runs past the file's end
  *    2  the first 9 bytes are not "gimp xcf "
  *    3  bytes 9 to 13 are not "file", "v001", "v002" or "v003" and a zero
- *    4  a side is 0 or above 16,384
- *    5  the base type is above 2, or 2 in version 0
+ *    4  a side is 0 or above 16,384; for the writer one of the canvas, at 14 (width) or 18 (height)
+ *    5  the base type is above 2, or 2 in version 0; for the writer above 1, at 22
  *    6  a known property has a wrong length
  *    7  a property's content is not allowed
  *    8  a 49th layer or 33rd channel
@@ -23,7 +24,8 @@
  *       or a row is, as said at xcf_decode
  *   15  the file is longer than 1,073,741,824 bytes
  *   16  a layer is a floating selection
- *   18  the encoding would exceed the lent output
+ *   17  a row given to the writer is unusable, as said at xcf_write
+ *   18  what is written would exceed the lent output, or a file 1,073,741,824 bytes
  */
 #ifndef XCF_H
 #define XCF_H
@@ -107,6 +109,28 @@ xcf_decode_answer xcf_decode(const uint8_t *file, size_t file_length, const uint
 /* Counts the marked tiles of the drawable of a row: the answer of xcf_decode, lent pixels and marks of the right lengths. */
 xcf_decode_answer xcf_count_marked(const uint8_t *file, size_t file_length, const uint32_t *table, size_t table_length,
                                    uint32_t row, uint32_t compression);
+
+typedef struct {
+    uint64_t number;
+    uint64_t place;
+    uint64_t length;
+} xcf_write_answer;
+
+/* Writes a file, its tiles run-length encoded, at the start of the output. base is 0 RGB or 1 greyscale. The table is as
+ * xcf_read gives it, but for three numbers of a row: 5 is the place of its name's bytes in names, 7 and 8 are 0. The pixels
+ * are those of all rows in order, each drawable's as xcf_decode gives them. length is how many bytes were written; the output
+ * beyond it is unchanged. Read back, the file gives the canvas, compression 1, version 2 if a mode is 19 to 21 and else 0,
+ * the same names and pixels, and the same rows but for their numbers 5, 7 and 8.
+ * A row is usable if xcf_read could have given it, but for those three numbers, and these hold: 6 is at most 1,024, and 5
+ * plus 6 at most the length of names; a mode is at most 21; a layer's type is 0 to 3, half of it, rounded down, the base; no
+ * group flag; apply mask only where the next row is a mask; selection on at most one mask or channel, active on at most one
+ * layer and one mask or channel (a second is the bad row).
+ * Layers, each with its mask behind it, come first, then channels, then unused rows. No rows at all make a file too.
+ * Refused are, in this order: 11 a table of other than 2,048 numbers; 4; 5; 17 at the lowest unusable row; 11 pixels of the
+ * wrong length; 18. */
+xcf_write_answer xcf_write(uint32_t width, uint32_t height, uint32_t base, const uint32_t *table, size_t table_length,
+                           const uint8_t *names, size_t names_length, const uint8_t *pixels, size_t pixels_length,
+                           uint8_t *output, size_t output_length);
 
 #ifdef __cplusplus
 }

@@ -1,5 +1,5 @@
 /* The header as a C program sees it: document 01's tile of depth 2 is decoded, what was encoded decodes to itself, and
- * document 01's whole file is read and its channel decoded. */
+ * document 01's whole file is read, its channel decoded, and the file written. */
 #include "xcf.h"
 
 #include <stddef.h>
@@ -13,6 +13,10 @@ _Static_assert(sizeof(xcf_decode_answer) == 24, "three numbers of 64 bits");
 _Static_assert(offsetof(xcf_decode_answer, number) == 0, "the number comes first");
 _Static_assert(offsetof(xcf_decode_answer, place) == 8, "the place comes second");
 _Static_assert(offsetof(xcf_decode_answer, marked) == 16, "the count comes last");
+_Static_assert(sizeof(xcf_write_answer) == 24, "three numbers of 64 bits");
+_Static_assert(offsetof(xcf_write_answer, number) == 0, "the number comes first");
+_Static_assert(offsetof(xcf_write_answer, place) == 8, "the place comes second");
+_Static_assert(offsetof(xcf_write_answer, length) == 16, "the length comes last");
 
 static int fails(const char *what) {
     fprintf(stderr, "header: %s\n", what);
@@ -106,6 +110,41 @@ static int decoding_fails(void) {
     return 0;
 }
 
+/* The answer to writing with the name "s" and one white pixel. */
+static xcf_write_answer written(uint32_t side, uint32_t base, const uint32_t *table, size_t pixels_length, uint8_t *output,
+                                size_t output_length) {
+    const uint8_t name = 's', pixel = 0xff;
+    return xcf_write(side, side, base, table, 2048, &name, 1, &pixel, pixels_length, output, output_length);
+}
+
+static int refuses(xcf_write_answer w, uint64_t number, uint64_t place) {
+    return w.number == number && w.place == place && w.length == 0;
+}
+
+static int writing_fails(void) {
+    const uint32_t row[16] = {3, 1, 1, 1, 2, 0, 1, 0, 0, 1, 255, 1, 0, 0, 0, 0};
+    uint32_t table[2048] = {0};
+    uint8_t output[150], expected[150];
+    memset(output, 0xaa, sizeof output);
+    memset(expected, 0xaa, sizeof expected);
+    memcpy(table, row, sizeof row);
+    if (!refuses(written(16385, 1, table, 1, output, 150), 4, 14) || !refuses(written(1, 2, table, 1, output, 150), 5, 22) ||
+        !refuses(written(1, 1, table, 0, output, 150), 11, 0) || !refuses(written(1, 1, table, 1, output, 142), 18, 0))
+        return fails("a refusal of xcf_write");
+    table[16] = 4;
+    if (!refuses(written(1, 1, table, 1, output, 150), 17, 1))
+        return fails("the refusal of a row by xcf_write");
+    if (memcmp(output, expected, sizeof output) != 0)
+        return fails("the output of a refusal by xcf_write");
+
+    table[16] = 0;
+    memcpy(expected, file, sizeof file);
+    xcf_write_answer w = written(1, 1, table, 1, output, 150);
+    if (w.number != 0 || w.place != 0 || w.length != sizeof file)
+        return fails("the answer of xcf_write");
+    return memcmp(output, expected, sizeof output) == 0 ? 0 : fails("the file of xcf_write");
+}
+
 int main(void) {
-    return tiles_fail() || reading_fails() || decoding_fails();
+    return tiles_fail() || reading_fails() || decoding_fails() || writing_fails();
 }

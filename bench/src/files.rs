@@ -81,7 +81,7 @@ pub fn one_layer(side: u32, depth: u32, tiles: Vec<Vec<u8>>) -> Vec<u8> {
     };
     let fields = DrawableFields {
         sides,
-        name: "Layer".to_string(),
+        name: b"Layer".to_vec(),
         list: Vec::new(),
         tiles,
     };
@@ -112,7 +112,7 @@ fn white(name: &str, sides: [u32; 2], depth: usize, list: Vec<u8>) -> DrawableFi
     let count = (sides[0] / 64) * (sides[1] / 64);
     DrawableFields {
         sides,
-        name: name.to_string(),
+        name: name.into(),
         list,
         tiles: vec![WHITE.repeat(depth); count as usize],
     }

@@ -1,13 +1,17 @@
 //! Measures the library's decoder and encoder against plain Rust ones, in one
-//! run, on 4,096 tiles of 64 by 64 pixels; then its reader, on whole files, and
-//! its decoder of whole drawables.
+//! run, on 4,096 tiles of 64 by 64 pixels; then its reader, on whole files, its
+//! decoder of whole drawables, and its writer.
 
 mod decoding;
 mod files;
 mod plain;
 mod plain_decode;
 mod plain_read;
+mod plain_write;
 mod reading;
+mod rows;
+mod turns;
+mod writing;
 
 use std::hint::black_box;
 use std::time::Instant;
@@ -159,4 +163,6 @@ fn main() {
     reading::compare_readers();
     println!();
     decoding::compare_decoders();
+    println!();
+    writing::compare_writers();
 }

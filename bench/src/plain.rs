@@ -169,7 +169,7 @@ fn write_copy(output: &mut [u8], bytes: &[u8]) -> usize {
 
 /// Encodes a stream to the start of `output`, which has room for the bound;
 /// gives the encoding's length.
-fn encode_stream(mut rest: &[u8], output: &mut [u8]) -> usize {
+pub fn encode_stream(mut rest: &[u8], output: &mut [u8]) -> usize {
     let mut length = 0;
     while let Some(&value) = rest.first() {
         let equal = rest.iter().position(|&byte| byte != value);

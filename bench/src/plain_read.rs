@@ -7,19 +7,7 @@ use xcf_compare::answer::{
     TABLE_LENGTH, TOO_MANY, UNENDED_STRING, UNKNOWN_VERSION, WRONG_LENGTH, ZERO_POINTER,
 };
 
-const LAYER: u32 = 1;
-const MASK: u32 = 2;
-const CHANNEL: u32 = 3;
-
-/// Bits of field 11.
-const VISIBLE: u32 = 1;
-const APPLY_MASK: u32 = 2;
-const SELECTION: u32 = 4;
-const ACTIVE: u32 = 8;
-const GROUP: u32 = 16;
-
-/// Bytes per pixel of the layer types 0 to 5.
-const DEPTHS: [u32; 6] = [3, 4, 1, 2, 1, 2];
+use crate::rows::{ACTIVE, APPLY_MASK, CHANNEL, DEPTHS, GROUP, LAYER, MASK, SELECTION, VISIBLE};
 
 /// Why a file is refused, and where in it the fault stands.
 struct Refusal {

@@ -32,7 +32,9 @@ pub const UNUSABLE: u64 = 14;
 pub const FILE_TOO_LONG: u64 = 15;
 /// A layer is a floating selection.
 pub const FLOATING_SELECTION: u64 = 16;
-/// The encoding would exceed the lent output.
+/// A row given to the writer is unusable.
+pub const UNUSABLE_ROW: u64 = 17;
+/// What is written would exceed the lent output, or the limit of files.
 pub const OUTPUT_TOO_SHORT: u64 = 18;
 
 /// The mark of a good tile.
@@ -48,7 +50,7 @@ pub const STREAM_LIMIT: usize = 4_096;
 /// Longer windows are cut here.
 pub const WINDOW_LIMIT: usize = 24_576;
 
-/// Longer files are refused.
+/// Longer files are refused, and none is written.
 pub const FILE_LIMIT: usize = 1_073_741_824;
 
 /// Longer files are not listed.
@@ -60,7 +62,7 @@ pub const SIDE_LIMIT: u32 = 16_384;
 /// Numbers in a row of the table.
 pub const ROW_LENGTH: usize = 16;
 
-/// Numbers in the table that the reader is lent: 128 rows.
+/// Numbers in a table that is lent: 128 rows.
 pub const TABLE_LENGTH: usize = 2_048;
 
 /// A row of the table.
@@ -76,6 +78,8 @@ pub type Read = fn(&[u8], &mut [u32]) -> ReadAnswer;
 pub type DecodeDrawable = fn(&[u8], &[u32], u32, u32, &mut [u8], &mut [u8]) -> DecodeAnswer;
 /// A counter of marked tiles: file, table, row, compression.
 pub type CountMarked = fn(&[u8], &[u32], u32, u32) -> DecodeAnswer;
+/// A writer: width, height, base, table, names, pixels, output.
+pub type Write = fn(u32, u32, u32, &[u32], &[u8], &[u8], &mut [u8]) -> WriteAnswer;
 
 /// The answer to decoding a tile.
 #[repr(C)]
@@ -110,7 +114,7 @@ impl TileAnswer {
     }
 }
 
-/// The answer to encoding a tile.
+/// The answer to encoding a tile, or to writing a file.
 #[repr(C)]
 #[derive(Clone, Copy, Debug, PartialEq, Eq)]
 pub struct WriteAnswer {
@@ -121,9 +125,13 @@ pub struct WriteAnswer {
 
 impl WriteAnswer {
     pub fn refused(number: u64) -> Self {
+        WriteAnswer::refused_at(number, 0)
+    }
+
+    pub fn refused_at(number: u64, place: usize) -> Self {
         WriteAnswer {
             number,
-            place: 0,
+            place: place as u64,
             length: 0,
         }
     }

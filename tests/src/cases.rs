@@ -87,7 +87,7 @@ fn unusable(random: &mut Random, usable: u32, limit: u32) -> u32 {
 }
 
 /// A length other than `right`: near it, nothing at all, or anything.
-fn wrong_length(random: &mut Random, right: usize) -> usize {
+pub fn wrong_length(random: &mut Random, right: usize) -> usize {
     let length = match random.below(5) {
         0 => right - 1,
         1 => right + 1,

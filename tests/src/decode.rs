@@ -57,7 +57,7 @@ impl Drawable {
 
     /// The row's numbers, if each is in range and the tile count fits the
     /// sides.
-    fn of_row(row: &[u32], compression: u32) -> Option<Self> {
+    pub fn of_row(row: &[u32], compression: u32) -> Option<Self> {
         let in_range = (1..=3).contains(&row[0])
             && (1..=SIDE_LIMIT).contains(&row[1])
             && (1..=SIDE_LIMIT).contains(&row[2])

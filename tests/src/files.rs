@@ -10,7 +10,7 @@ pub mod laid;
 mod property;
 mod writer;
 
-pub use builder::{BuiltFile, decodable_file, random_file};
+pub use builder::{BuiltFile, decodable_file, random_file, random_sides};
 pub use example::EXAMPLE;
 pub use writer::{DrawableFields, ImageFields, Layer, Writer, write_file};
 

@@ -1,5 +1,6 @@
 //! Compares the static library with an independent implementation of the
-//! rules: for one tile, for reading a whole file, for decoding a drawable.
+//! rules: for one tile, for reading a whole file, for decoding a drawable, for
+//! writing a whole file.
 
 pub mod answer;
 pub mod cases;
@@ -10,11 +11,14 @@ pub mod guard;
 pub mod library;
 pub mod list;
 pub mod list_cases;
+pub mod numbers;
 pub mod random;
 pub mod read;
+pub mod tables;
 pub mod tally;
 pub mod tile;
 pub mod vectors;
+pub mod write;
 
 use std::io::Write;
 

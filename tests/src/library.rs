@@ -52,6 +52,20 @@ unsafe extern "C" {
         row: u32,
         compression: u32,
     ) -> DecodeAnswer;
+
+    fn xcf_write(
+        width: u32,
+        height: u32,
+        base: u32,
+        table: *const u32,
+        table_length: usize,
+        names: *const u8,
+        names_length: usize,
+        pixels: *const u8,
+        pixels_length: usize,
+        output: *mut u8,
+        output_length: usize,
+    ) -> WriteAnswer;
 }
 
 pub fn decode_tile(
@@ -142,6 +156,34 @@ pub fn count_marked(file: &[u8], table: &[u32], row: u32, compression: u32) -> D
             table.len(),
             row,
             compression,
+        )
+    }
+}
+
+pub fn write(
+    width: u32,
+    height: u32,
+    base: u32,
+    table: &[u32],
+    names: &[u8],
+    pixels: &[u8],
+    output: &mut [u8],
+) -> WriteAnswer {
+    // SAFETY: all four slices are valid for their lengths during the call, and
+    // the output overlaps none of the others.
+    unsafe {
+        xcf_write(
+            width,
+            height,
+            base,
+            table.as_ptr(),
+            table.len(),
+            names.as_ptr(),
+            names.len(),
+            pixels.as_ptr(),
+            pixels.len(),
+            output.as_mut_ptr(),
+            output.len(),
         )
     }
 }

@@ -152,7 +152,7 @@ fn drawable(
     };
     DrawableFields {
         sides,
-        name: name.to_string(),
+        name: name.into(),
         list,
         tiles: (0..tile_count(shape)).map(tile).collect(),
     }

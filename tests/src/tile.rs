@@ -251,12 +251,12 @@ pub fn encode_stream_to(stream: &[u8], output: &mut [u8]) -> WriteAnswer {
     write(&encode_stream(stream), output)
 }
 
-/// Writes an encoding to the start of `output`, if there is room for it.
-fn write(encoding: &[u8], output: &mut [u8]) -> WriteAnswer {
-    match output.get_mut(..encoding.len()) {
+/// Writes bytes to the start of `output`, if there is room for them.
+pub fn write(bytes: &[u8], output: &mut [u8]) -> WriteAnswer {
+    match output.get_mut(..bytes.len()) {
         Some(start) => {
-            start.copy_from_slice(encoding);
-            WriteAnswer::written(encoding.len())
+            start.copy_from_slice(bytes);
+            WriteAnswer::written(bytes.len())
         }
         None => WriteAnswer::refused(OUTPUT_TOO_SHORT),
     }

@@ -30,7 +30,7 @@ use Rattle.xcf_decode.specs.Isolation.{rowOf, InChosen, IsTile, Damaged}
 use Rattle.xcf_decode.proofs.RowDecoded.{row-decoded}
 use Rattle.xcf_decode.proofs.SameBytes.{read-same}
 use Rattle.xcf.specs.DamagedExample.{wideFile, damagedFile, FirstTile, DamagedExample}
-use Rattle.xcf.proofs.ExampleRead.{read-walked}
+use Rattle.xcf_read.proofs.Accepted.{read-walked}
 
 -- what the reader gives for the wide file
 abbrev wideRow : List ℕ

@@ -1,20 +1,16 @@
 -- The example file of document 01 is read: the rules at its bytes are computed.
 -- Assumes nothing.
-use Prim.Native.Nat.{ℕ, _≤_}
 use mathlib.Core.Path.{_≡_, refl}
-use mathlib.Core.List.{List}
 use native.Mathlib.Omega.{arith}
-use borrow.Author.Tests.{eq-eqb, le-leb}
-use lib.ListN.{length}
 use Rattle.xcf_walk.specs.Walk.{got, run, bytes, here, must, fileLength, jump, loop, turns}
 use Rattle.xcf_walk.specs.Fields.{bigEndian, number, word, wordOf, string}
 use Rattle.xcf_walk.specs.Property.{lengthOk, contentOf, payload, isColourMap, content, property, isFloating, lacksMap, allowed, activeType, put, propertyTurn, properties}
-use Rattle.xcf_table.specs.Table.{tableSize, addRow, tableOf}
+use Rattle.xcf_table.specs.Table.{addRow, tableOf}
 use Rattle.xcf_read.specs.Header.{same, versionIn, header}
 use Rattle.xcf_read.specs.Hierarchy.{pointerSize, agrees, pointer, restTurn, rest, tiles, hierarchy}
 use Rattle.xcf_read.specs.Drawable.{sideOk, side, sideLike, fields, channel, flag, channelFlags, channelRow, channelOwner, channelRows, canvasChannelRows}
-use Rattle.xcf_read.specs.Image.{baseOk, baseType, head, pointers, drawables, canvasOf, Image, image}
-use Rattle.xcf_read.specs.Answer.{fileLimit, readingOf, reading}
+use Rattle.xcf_read.specs.Image.{baseOk, baseType, head, pointers, drawables, canvasOf, image}
+use Rattle.xcf_read.proofs.Accepted.{read-walked}
 use Rattle.xcf.specs.ExampleFile.{exampleFile, exampleRow}
 use Rattle.xcf.specs.Statements.{ExampleFileIsRead}
 
@@ -25,11 +21,6 @@ walked : run (image pointerSize) exampleFile 0
     }) 141
 unfolding run bytes here must fileLength jump loop turns bigEndian number word string lengthOk wordOf contentOf payload isColourMap content property isFloating lacksMap allowed activeType put propertyTurn properties addRow same versionIn header agrees pointer restTurn rest tiles hierarchy sideOk side sideLike fields channel flag channelFlags channelRow channelOwner channelRows canvasChannelRows baseOk baseType head pointers drawables canvasOf image
 walked = refl
-
--- what a walk gives, a reading gives
-pub read-walked : (f lent : List ℕ) {x : Image} {q : ℕ} → length lent ≡ tableSize → length f ≤ fileLimit → run (image pointerSize) f 0 ≡ got x q → reading f lent ≡ readingOf (got x q)
-unfolding reading
-read-walked f lent size small e = rw (eq-eqb _ _ size, le-leb _ _ small, e)
 
 pub example-read : ExampleFileIsRead
 unfolding tableOf

@@ -1,3 +1,4 @@
 pub mod ExampleRead
+pub mod ExampleWritten
 pub mod ExampleDamaged
 pub mod Theorems

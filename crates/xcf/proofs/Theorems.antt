@@ -23,9 +23,13 @@ use Rattle.xcf_decode.proofs.Counted.{count-decoded}
 use Rattle.xcf_decode.proofs.Refused.{decoder-listed}
 use Rattle.xcf_decode.proofs.RowDecoded.{row-decoded}
 use Rattle.xcf_decode.proofs.Isolated.{isolated}
+use Rattle.xcf_write.proofs.WriterNumbers.{writer-listed}
+use Rattle.xcf_round_trip.proofs.RoundTrip.{round-trip}
+use Rattle.xcf_round_trip.proofs.GivenTaken.{given-is-taken}
 use Rattle.xcf.proofs.ExampleRead.{example-read}
+use Rattle.xcf.proofs.ExampleWritten.{example-written}
 use Rattle.xcf.proofs.ExampleDamaged.{example-damaged}
-use Rattle.xcf.specs.Statements.{ExamplesHold, PassedBytesDecide, StructureBytesDecide, RefusalsAreListed, AcceptedWithoutFault, ExampleFileIsRead, DamageIsIsolated, ExampleIsDamaged, AcceptedRowsDecode, PixelsAreTheirTiles, EachPixelHasOneTile, TilesAreShown, DecoderRefusalsAreListed, CountIsTheDecoders, MarksAreListed, ConsumedBytesDecide, ConsumedBytesDecideTheCall, PixelsAreStreams, PixelsAreWhole, MarkedPixelsAreZero, EncodedStreamBounded, StreamReadsBack, TileReadsBack, EncodedTileFits}
+use Rattle.xcf.specs.Statements.{ExamplesHold, PassedBytesDecide, StructureBytesDecide, RefusalsAreListed, AcceptedWithoutFault, ExampleFileIsRead, WrittenReadsBack, GivenRowsAreTaken, ExampleFileIsWritten, WriterRefusalsAreListed, DamageIsIsolated, ExampleIsDamaged, AcceptedRowsDecode, PixelsAreTheirTiles, EachPixelHasOneTile, TilesAreShown, DecoderRefusalsAreListed, CountIsTheDecoders, MarksAreListed, ConsumedBytesDecide, ConsumedBytesDecideTheCall, PixelsAreStreams, PixelsAreWhole, MarkedPixelsAreZero, EncodedStreamBounded, StreamReadsBack, TileReadsBack, EncodedTileFits}
 
 pub examples-hold : ExamplesHold
 unfolding headOf headAt operationOf operationAt streamFrom streamWithin streamAt streamsAt pixel interleave encodedTile tileIn tileOf leading equalBytes copiedBytes firstSegment segmentsWithin segments written writtenAll encodeStream
@@ -46,6 +50,18 @@ accepted-without-fault = accepted-exactly
 
 pub example-file-is-read : ExampleFileIsRead
 example-file-is-read = example-read
+
+pub written-reads-back : WrittenReadsBack
+written-reads-back = round-trip
+
+pub given-rows-are-taken : GivenRowsAreTaken
+given-rows-are-taken = given-is-taken
+
+pub example-file-is-written : ExampleFileIsWritten
+example-file-is-written = example-written
+
+pub writer-refusals-are-listed : WriterRefusalsAreListed
+writer-refusals-are-listed = writer-listed
 
 pub damage-is-isolated : DamageIsIsolated
 damage-is-isolated = isolated

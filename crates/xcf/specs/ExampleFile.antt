@@ -1,6 +1,8 @@
 -- The whole file of document 01: 143 bytes, a canvas of one grey pixel, and a channel "s", visible, of one pixel.
-use Prim.Native.Nat.{ℕ}
-use mathlib.Core.List.{List, [], _∷_}
+use Prim.Native.Nat.{ℕ, _-_}
+use mathlib.Core.List.{List, [], _∷_, _++_}
+use lib.ListN.{replicate}
+use Rattle.xcf_table.specs.Table.{rowSize, tableSize}
 
 -- line by line: the first bytes; canvas and base type; the image's list; its pointers; the channel's sides and name, its list,
 -- its hierarchy pointer; hierarchy; level; tile
@@ -20,3 +22,7 @@ exampleFile =
 -- its row: the listing's fields, with the kind before them
 abbrev pub exampleRow : List ℕ
 exampleRow = 3 ∷ 1 ∷ 1 ∷ 1 ∷ 2 ∷ 67 ∷ 1 ∷ 69 ∷ 133 ∷ 1 ∷ 255 ∷ 1 ∷ 0 ∷ 0 ∷ 0 ∷ 0 ∷ []
+
+-- the table that it is written from, with its row's name lent as one byte
+abbrev pub exampleTable : List ℕ
+exampleTable = (3 ∷ 1 ∷ 1 ∷ 1 ∷ 2 ∷ 0 ∷ 1 ∷ 0 ∷ 0 ∷ 1 ∷ 255 ∷ 1 ∷ 0 ∷ 0 ∷ 0 ∷ 0 ∷ []) ++ replicate (tableSize - rowSize) 0

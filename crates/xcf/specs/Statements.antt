@@ -2,9 +2,9 @@
 use mathlib.Core.Path.{_≡_}
 use mathlib.Core.Bool.{true}
 use mathlib.Core.Logic.{_⊎_}
-use mathlib.Core.List.{List, [], _++_}
+use mathlib.Core.List.{List, [], _∷_, _++_}
 use Prim.Native.Nat.{ℕ, _+_, _-_, _*_, _/_, _≤_, _<_}
-use lib.ListN.{length, getD, take, replicate}
+use lib.ListN.{length, getD, take, drop, replicate}
 use Rattle.xcf_tile.specs.Stream.{streamAt}
 use Rattle.xcf_tile.specs.Tile.{streamsAt, tileOf, windowLimit}
 use Rattle.xcf_tile.specs.declared.TileAnswer.{TileAnswer}
@@ -20,8 +20,12 @@ use Rattle.xcf_tile.specs.Grid.{tileWidth, tileHeight, tileCount}
 use Rattle.xcf_decode.specs.Pixels.{HasPixel, tileAt, byteOf, byteIn, pixelsOf, shown}
 use Rattle.xcf_decode.specs.Answer.{fits, decoderNumbers, rowDecoding, decoding, counting}
 use Rattle.xcf_decode.specs.Isolation.{rowOf, Isolation}
+use Rattle.xcf_read.specs.declared.drawable.Canvas.{Canvas}
+use Rattle.xcf_write.specs.Answer.{writing, writerNumbers}
+use Rattle.xcf_round_trip.specs.RoundTrip.{RoundTrip}
+use Rattle.xcf_round_trip.specs.Taken.{GivenIsTaken}
 use Rattle.xcf.specs.DamagedExample.{DamagedExample}
-use Rattle.xcf.specs.ExampleFile.{exampleFile, exampleRow}
+use Rattle.xcf.specs.ExampleFile.{exampleFile, exampleRow, exampleTable}
 use Rattle.xcf.specs.Examples.{table, All}
 
 -- The worked examples of document 01 hold.
@@ -62,6 +66,28 @@ ExampleFileIsRead =
       answer = record { number = 0; place = 0; width = 1; height = 1; base = 1; version = 0; compression = 1; rows = 1 };
       table = exampleRow ++ replicate (tableSize - rowSize) 0;
     }
+
+-- Demand 2's second half: what the writer writes reads back as the same rows, names and pixels, with no tile marked; only the rows'
+-- places differ. One claim over every input that the writer accepts, in full in `xcf_round_trip/specs/RoundTrip.antt`.
+abbrev pub WrittenReadsBack : Type 0
+WrittenReadsBack = RoundTrip
+
+-- And the writer takes every table with the rows that a reader gave, but for what document 01 excepts; in full in
+-- `xcf_round_trip/specs/Taken.antt`.
+abbrev pub GivenRowsAreTaken : Type 0
+GivenRowsAreTaken = GivenIsTaken
+
+-- The example file is written byte for byte, and the output beyond it is unchanged.
+abbrev pub ExampleFileIsWritten : Type 0
+ExampleFileIsWritten =
+    (output : List ℕ) → 143 ≤ length output
+    → writing (record { width = 1; height = 1; base = 1 }) exampleTable (115 ∷ []) (255 ∷ []) output
+    ≡ record { answer = record { number = 0; place = 0; length = 143 }; output = exampleFile ++ drop 143 output }
+
+-- The writer answers 0, 4, 5, 11, 17 or 18.
+abbrev pub WriterRefusalsAreListed : Type 0
+WriterRefusalsAreListed =
+    (c : Canvas) (table names pixels output : List ℕ) → listed writerNumbers (writing c table names pixels output .answer .number) ≡ true
 
 -- Demand 3: damage inside the windows of some tiles changes nothing outside them. One claim over all rows and tiles of any accepted
 -- file, in full in `xcf_decode/specs/Isolation.antt`.

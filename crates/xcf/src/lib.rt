@@ -4,10 +4,13 @@ ghost use Rattle.xcf_tile.specs.Answer.{Decoded};
 ghost use Rattle.xcf_encode.specs.Answer.{TileEncoded};
 ghost use Rattle.xcf_read.specs.Answer.{Read};
 ghost use Rattle.xcf_decode.specs.Answer.{counting, DrawableDecoded};
+ghost use Rattle.xcf_write.specs.Answer.{Written};
 use xcf_decode::DecodeAnswer;
 use xcf_encode::EncodeAnswer;
 use xcf_read::ReadAnswer;
+use xcf_read::drawable::Canvas;
 use xcf_tile::TileAnswer;
+use xcf_write::WriteAnswer;
 
 // The structures of a file as rows of a table of 2,048 numbers.
 #[no_mangle]
@@ -72,4 +75,26 @@ pub extern "C" fn xcf_encode_tile(
     ensures { λ r. ⌜ TileEncoded (now (pixels .entry)) width height depth (now (output .entry)) r (now (output .exit)) ⌝ }
 {
     xcf_encode::encode_tile(pixels, width, height, depth, output)
+}
+
+// The file of the table's used rows, at the output's start: the bytes of their names stand in `names`, and their pixels follow each
+// other in `pixels`, in row order.
+#[no_mangle]
+pub extern "C" fn xcf_write(
+    width: u32,
+    height: u32,
+    base: u32,
+    table: &[u32],
+    names: &[u8],
+    pixels: &[u8],
+    output: &mut [u8],
+) -> WriteAnswer
+    ensures { λ r. ⌜ Written (record { width = width; height = height; base = base }) (now (table .entry)) (now (names .entry)) (now (pixels .entry)) (now (output .entry)) r (now (output .exit)) ⌝ }
+{
+    let canvas = Canvas {
+        width,
+        height,
+        base,
+    };
+    xcf_write::write(canvas, table, names, pixels, output)
 }

@@ -13,6 +13,12 @@ use Rattle.xcf_read.specs.Image.{Image, image}
 use Rattle.xcf_read.specs.Answer.{fileLimit, listed, readingOf, reading}
 use Rattle.xcf_read.proofs.Numbers.{refusals-listed}
 
+-- what a walk gives, a reading gives
+pub read-walked : (f lent : List ℕ) {x : Image} {q : ℕ} → length lent ≡ tableSize → length f ≤ fileLimit → run (image pointerSize) f 0 ≡ got x q
+    → reading f lent ≡ readingOf (got x q)
+unfolding reading
+read-walked f lent size small e = rw (eq-eqb _ _ size, le-leb _ _ small, e)
+
 module _ (f table : List ℕ) (size : length table ≡ tableSize) (small : length f ≤ fileLimit) where
   walked : reading f table .answer .number ≡ readingOf (run (image pointerSize) f 0) .answer .number
   unfolding reading

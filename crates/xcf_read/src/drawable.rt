@@ -66,7 +66,7 @@ pub struct RowsRead {
     pub cursor: Cursor,
 }
 
-fn side_ok(n: u32) -> bool
+pub fn side_ok(n: u32) -> bool
     ensures { λ r. ⌜ r ≡ sideOk n ⌝ }
 {
     if 1 <= n { n <= 16384 } else { false }
@@ -99,7 +99,7 @@ fn side_like(cursor: Cursor, file: &[u8], v: u32) -> Cursor
     n.cursor.check(n.value == v, 10, cursor.at)
 }
 
-fn type_ok(base: u32, t: u32) -> bool
+pub fn type_ok(base: u32, t: u32) -> bool
     ensures { λ r. ⌜ r ≡ typeOk base t ⌝ }
 {
     if t <= 5 { t / 2 == base } else { false }
@@ -118,7 +118,7 @@ fn layer_type(cursor: Cursor, file: &[u8], base: u32) -> WordRead
 
 const DEPTHS: [u32; 6] = [3, 4, 1, 2, 1, 2];
 
-fn depth_of(t: u32) -> u32
+pub fn depth_of(t: u32) -> u32
     ensures { λ r. ⌜ r ≡ depthOf t ⌝ }
 {
     if t < 6 {

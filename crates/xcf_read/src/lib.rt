@@ -1,5 +1,5 @@
 // The reader: a file's structures, checked rule by rule, as rows of a lent table.
-mod drawable;
+pub mod drawable;
 pub mod header;
 pub mod hierarchy;
 mod image;

@@ -77,7 +77,7 @@ pub fn put_row(table: &mut [u32], k: u32, row: Row)
     }
 }
 
-fn unused_row() -> Row
+pub fn unused_row() -> Row
     ensures { λ r. ⌜ r ≡ unusedRow ⌝ }
 {
     Row {

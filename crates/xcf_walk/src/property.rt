@@ -198,7 +198,7 @@ fn pick(kind: u32, want: u32, new: u32, old: u32) -> u32
     if kind == want { new } else { old }
 }
 
-fn active_type(list: u32) -> u32
+pub fn active_type(list: u32) -> u32
     ensures { λ r. ⌜ r ≡ activeType list ⌝ }
 {
     if list == 1 { 2 } else { 3 }

@@ -91,7 +91,7 @@ fn build(random: &mut Random, content: Content) -> BuiltFile {
 }
 
 /// Sides that often take several tiles, and seldom the largest.
-fn random_sides(random: &mut Random) -> (u32, u32) {
+pub fn random_sides(random: &mut Random) -> (u32, u32) {
     let mut side = || match random.below(8) {
         0..=2 => random.between(1, 8),
         3 | 4 => random.between(1, 70),

@@ -6,6 +6,7 @@ use crate::answer::{
     BAD_BASE, BAD_CONTENT, BAD_SIDE, BAD_TILE_POINTER, DISAGREES, FLOATING_SELECTION, NOT_XCF,
     PAST_END, PROPERTY_LENGTH, TOO_MANY, UNENDED_STRING, UNKNOWN_VERSION, ZERO_POINTER,
 };
+use crate::numbers::{above, bad_side, other, other_side, other_type};
 use crate::random::Random;
 
 /// A number, and the place that it stands at.
@@ -127,28 +128,6 @@ fn displaced_fault(
     }
 }
 
-/// A number above `limit`: the next one, a near one, or any.
-fn above(random: &mut Random, limit: u32) -> u32 {
-    let any = random.between(limit as usize + 1, u32::MAX as usize) as u32;
-    let near = limit.saturating_add(random.between(1, 5) as u32);
-    random.pick(&[limit + 1, near, any, u32::MAX])
-}
-
-/// A number other than `old`: a neighbour, one that differs in a byte, or any.
-fn other(random: &mut Random, old: u32) -> u32 {
-    let any = old ^ random.between(1, u32::MAX as usize) as u32;
-    let byte = old ^ (random.between(1, 255) as u32) << (8 * random.below(4));
-    random.pick(&[old.wrapping_add(1), old.wrapping_sub(1), byte, any])
-}
-
-fn bad_side(random: &mut Random) -> u32 {
-    if random.one_in(3) {
-        0
-    } else {
-        above(random, 16_384)
-    }
-}
-
 /// A base type that the file's version does not have.
 fn bad_base(random: &mut Random, built: &BuiltFile) -> u32 {
     let least = match &built.bytes[9..14] {
@@ -156,20 +135,6 @@ fn bad_base(random: &mut Random, built: &BuiltFile) -> u32 {
         _ => 3,
     };
     above(random, least - 1)
-}
-
-/// A usable side other than `old`.
-fn other_side(random: &mut Random, old: u32) -> u32 {
-    let side = random.between(1, 16_383) as u32;
-    let near = if old > 1 { old - 1 } else { 2 };
-    random.pick(&[near, if side == old { 16_384 } else { side }])
-}
-
-/// A layer type of another base type, or none.
-fn other_type(random: &mut Random, old: u32) -> u32 {
-    let mut types: Vec<u32> = (0..=5).filter(|other| other / 2 != old / 2).collect();
-    types.extend([6, 7, above(random, 5)]);
-    random.pick(&types)
 }
 
 /// A tile pointer that is 0, not above the one before, or not in the file.

@@ -15,7 +15,7 @@ pub struct ImageFields {
 /// What a drawable's structure holds before its pointers, and its tiles.
 pub struct DrawableFields {
     pub sides: [u32; 2],
-    pub name: String,
+    pub name: Vec<u8>,
     /// The property list without its end.
     pub list: Vec<u8>,
     /// The tiles' bytes, laid out one after the other.
@@ -41,12 +41,12 @@ impl Writer {
     }
 
     /// Appends a string; an empty one has no closing zero.
-    fn name(&mut self, name: &str) {
+    fn name(&mut self, name: &[u8]) {
         if name.is_empty() {
             self.words(&[0]);
         } else {
             self.words(&[name.len() as u32 + 1]);
-            self.file.extend(name.as_bytes());
+            self.file.extend(name);
             self.file.push(0);
         }
     }

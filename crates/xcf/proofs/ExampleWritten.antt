@@ -1,0 +1,35 @@
+-- The example file of document 01 is written: the tests of its table and its bytes are computed.
+-- Assumes nothing.
+use Prim.Native.Nat.{ℕ}
+use mathlib.Core.Path.{_≡_, refl}
+use mathlib.Core.List.{[], _∷_}
+use borrow.Author.Tests.{le-leb}
+use lib.ListN.{length}
+use Rattle.xcf_walk.specs.Property.{activeType}
+use Rattle.xcf_table.specs.Table.{rowAt}
+use Rattle.xcf_encode.specs.Segment.{leading, equalBytes, copiedBytes, firstSegment, segmentsWithin, segments, written, writtenAll, encodeStream}
+use Rattle.xcf_encode.specs.Tile.{plane, planes, encodeAll, encodeTile}
+use Rattle.xcf_read.specs.declared.drawable.Canvas.{Canvas}
+use Rattle.xcf_read.specs.Drawable.{sideOk, typeOk, depthOf}
+use Rattle.xcf_decode.specs.Pixels.{tabulate, shown}
+use Rattle.xcf_usable.specs.Usable.{before, rowBefore, seenAt, masked, drawableOk, layerOk, layerFollows, channelOk, maskFollows, channelFollows, allZero, usableRow, usable, badFrom, badRow}
+use Rattle.xcf_write.specs.Structure.{wordBytes, words, nameBytes, propertyBytes, listBytes, imageProperties, drawableProperties, structureBytes, hierarchyBytes, levelBytes}
+use Rattle.xcf_write.specs.File.{encodings, tilesOf, joined, starts, structureSize, drawableSize, drawableBytes, drawablesBytes, placesOf, versionOf, imageBytes, imageSize, fileBytes, usedFrom, pixelsSize, drawablesFrom}
+use Rattle.xcf_write.specs.Answer.{answered, fileOf, rowsRefusal, inputRefusal, writeAnswer, writeOutput, writing}
+use Rattle.xcf.specs.ExampleFile.{exampleFile, exampleTable}
+use Rattle.xcf.specs.Statements.{ExampleFileIsWritten}
+
+abbrev canvas : Canvas
+canvas = record { width = 1; height = 1; base = 1 }
+
+accepted : inputRefusal canvas exampleTable 1 1 ≡ answered 0 0 0
+unfolding rowAt sideOk typeOk depthOf before rowBefore seenAt masked drawableOk layerOk layerFollows channelOk maskFollows channelFollows allZero usableRow usable badFrom badRow usedFrom pixelsSize rowsRefusal inputRefusal
+accepted = refl
+
+file : fileOf canvas exampleTable (115 ∷ []) (255 ∷ []) ≡ exampleFile
+unfolding rowAt leading equalBytes copiedBytes firstSegment segmentsWithin segments written writtenAll encodeStream plane planes encodeAll encodeTile tabulate shown activeType masked wordBytes words nameBytes propertyBytes listBytes imageProperties drawableProperties structureBytes hierarchyBytes levelBytes encodings tilesOf joined starts structureSize drawableSize drawableBytes drawablesBytes placesOf versionOf imageBytes imageSize fileBytes usedFrom drawablesFrom fileOf
+file = refl
+
+pub example-written : ExampleFileIsWritten
+unfolding writing writeAnswer writeOutput
+example-written output h = rw (accepted, file, le-leb 143 (length output) h)

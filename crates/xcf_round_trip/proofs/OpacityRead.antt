@@ -1,0 +1,38 @@
+-- A drawable's opacity is at most 255: the walk over its properties tests each that says it, and its turns keep it.
+-- Assumes nothing.
+use Prim.Native.Nat.{ℕ, _≤_}
+use mathlib.Core.Path.{_≡_}
+use mathlib.Core.List.{List}
+use mathlib.Core.Bool.{Bool, true, false, cond}
+use native.Mathlib.Omega.{arith}
+use borrow.Author.Tests.{leb-true}
+use lib.Dec.{leb, eqb}
+use Rattle.xcf_walk.specs.declared.property.Content.{Content}
+use Rattle.xcf_walk.specs.declared.property.Properties.{Properties}
+use Rattle.xcf_walk.specs.Walk.{must}
+use Rattle.xcf_walk.specs.Property.{imageList, allowed, property, put, propertyTurn, properties}
+use Rattle.xcf_walk.proofs.Ensures.{Ensures, ensures-done, ensures-must, ensures-bind, ensures-next, InTurn, ensures-loop}
+use Rattle.xcf_tile.proofs.Cases.{by-cases}
+
+module _ (list : ℕ) (drawn : eqb list imageList ≡ false) where
+  put-opacity : (kind : ℕ) (c : Content) (p : Properties) → allowed list kind (c .first) ≡ true → p .opacity ≤ 255
+      → put list kind c p .opacity ≤ 255
+  unfolding allowed put
+  put-opacity kind c p e h = go (eqb kind 6) _ (rw drawn at e)
+    where
+      go : (t other : Bool) → cond t (leb (c .first) 255) other ≡ true → cond t (c .first) (p .opacity) ≤ 255
+      go true other e = leb-true _ 255 e
+      go false other e = h
+
+  module _ {f : List ℕ} {S : ℕ → Type 0} where
+    opacity-turn : (p : Properties) → p .opacity ≤ 255 → Ensures f S (InTurn (λ x. x .opacity ≤ 255)) (propertyTurn list p)
+    unfolding propertyTurn
+    opacity-turn p h =
+        ensures-next (property list) _ λ x. ensures-next (must _ 16 _) _ λ _. ensures-next (must _ 7 _) _ λ _.
+        ensures-bind _ (ensures-must (allowed list (x .kind) (x .content .first)) 7 (x .place)) λ _ e.
+        let kept = put-opacity (x .kind) (x .content) p e h in
+        ensures-done (by-cases (InTurn _) (eqb (x .kind) 0) _ _ (λ _. kept) (λ _. kept))
+
+    pub ensures-opacity : (unmapped : ℕ) → Ensures f S (λ p. p .opacity ≤ 255) (properties list unmapped)
+    unfolding properties
+    ensures-opacity unmapped = ensures-loop (propertyTurn list) opacity-turn _ (omega arith)

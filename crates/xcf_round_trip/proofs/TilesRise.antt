@@ -1,0 +1,58 @@
+-- The places of a drawable's tiles rise (`tiles-rise`): no encoding is empty.
+-- Assumes nothing.
+use Prim.Native.Nat.{ℕ, zero, suc, _+_, _≤_, _<_}
+use mathlib.Core.List.{List}
+use native.Mathlib.Nat.{mul-le-mul}
+use native.Mathlib.Omega.{arith}
+use lib.ListN.{length, length-append}
+use Rattle.xcf_table.specs.declared.Row.{Row}
+use Rattle.xcf_encode.specs.Segment.{Segment, runOf, copyOf, sizeOf, firstSegment, written, encodeStream}
+use Rattle.xcf_encode.specs.Tile.{plane, planes, encodeAll, encodeTile}
+use Rattle.xcf_encode.proofs.Segments.{first-some, encode-cons}
+use Rattle.xcf_encode.proofs.Written.{run-length, copy-length}
+use Rattle.xcf_encode.proofs.Planes.{plane-length}
+use Rattle.xcf_write.specs.File.{Drawable, encodings, tilesOf, joined, starts}
+use Rattle.xcf_write.specs.Parts.{Writable, Drawn, Tiled, encodingOf}
+use Rattle.xcf_write.proofs.Lines.{tiled-width, tiled-height}
+use Rattle.xcf_write.proofs.EncodingBound.{tiled}
+use Rattle.xcf_round_trip.specs.Parts.{Rises}
+
+-- an operation has a byte at least, and so have the encodings of a stream that is not empty and of a tile
+written-some : (s : Segment) → 0 < sizeOf s → 0 < length (written s)
+written-some (runOf count value) h = rw run-length (omega arith)
+written-some (copyOf bytes) h = rw copy-length (omega arith)
+
+stream-some : (xs : List ℕ) → 0 < length xs → 0 < length (encodeStream xs)
+stream-some xs h = rw (encode-cons xs h, length-append) (omega (arith, written-some (firstSegment xs) (first-some xs h)))
+
+tile-some : (n depth : ℕ) (pixels : List ℕ) → 1 ≤ n → 1 ≤ depth → 0 < length (encodeTile n depth pixels)
+unfolding encodeTile encodeAll planes
+tile-some n zero pixels some deep = absurd (omega arith)
+tile-some n (suc depth) pixels some deep =
+    rw length-append (omega (arith, stream-some (plane n 0 (suc depth) pixels) (rw plane-length some)))
+
+encoding-some : {r : Row} {t : ℕ} {pixels : List ℕ} → Tiled r t pixels → 0 < length (encodingOf r t pixels)
+unfolding encodingOf
+encoding-some {r} x = tile-some _ (r .depth) _ (mul-le-mul (tiled-width x .0) (tiled-height x .0)) (x .drawn .range .deep .0)
+
+-- each place is above the one before, from tile t on
+encodings-rise : {r : Row} {pixels : List ℕ} → Drawn r pixels → (n t before q end : ℕ) → t + n ≤ r .count → before < q
+    → q + length (joined (encodings n t r pixels)) ≤ end → Rises before (starts (encodings n t r pixels) q) end
+unfolding encodings encodingOf joined starts Rises
+encodings-rise x zero t before q end count above inside = tt
+encodings-rise {r} {pixels} x (suc n) t before q end count above inside =
+    let some = encoding-some {t = t} (tiled x (omega arith)) in
+    let room = rw length-append at inside in
+    let next = q + length (encodingOf r t pixels) in
+    (above, (omega arith, encodings-rise x n (t + 1) q next end (omega arith) (omega arith) (omega arith)))
+
+pub writable-drawn : {d : Drawable} → Writable d → Drawn (d .row) (d .pixels)
+writable-drawn w = record {
+  range = record { wide = w .wide; high = w .high; deep = w .deep; count = w .count; short = w .short };
+  whole = w .whole;
+}
+
+pub tiles-rise : (d : Drawable) (q end : ℕ) → Writable d → 0 < q → q + length (joined (tilesOf d)) ≤ end
+    → Rises 0 (starts (tilesOf d) q) end
+unfolding tilesOf
+tiles-rise d q end w some inside = encodings-rise (writable-drawn w) (d .row .count) 0 0 q end (omega arith) some inside

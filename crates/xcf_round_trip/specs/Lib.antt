@@ -1,0 +1,3 @@
+pub mod RoundTrip
+pub mod Taken
+pub mod Parts

@@ -1,0 +1,75 @@
+-- Demand 2's second half: what the writer writes reads back as the same rows, names and pixels, with no tile marked; only the rows'
+-- places differ.
+use Prim.Native.Nat.{ℕ, _<_}
+use mathlib.Core.Path.{_≡_}
+use mathlib.Core.List.{List}
+use mathlib.Core.Bool.{true}
+use lib.ListN.{length, getD, take, replicate}
+use Rattle.xcf_walk.specs.Walk.{part}
+use Rattle.xcf_table.specs.declared.Row.{Row}
+use Rattle.xcf_table.specs.Table.{tableSize, rowAt}
+use Rattle.xcf_read.specs.declared.drawable.Canvas.{Canvas}
+use Rattle.xcf_read.specs.Answer.{reading}
+use Rattle.xcf_decode.specs.Answer.{fits, decoding}
+use Rattle.xcf_usable.specs.Usable.{tableRows}
+use Rattle.xcf_write.specs.File.{versionOf, pixelSize, pixelsSize, drawablesFrom}
+use Rattle.xcf_write.specs.Answer.{usedRows, writing}
+
+-- a row with other numbers in fields 5, 7 and 8
+abbrev pub withPlaces : Row → ℕ → ℕ → ℕ → Row
+withPlaces r name list tiles = record {
+  kind = r .kind;
+  width = r .width;
+  height = r .height;
+  depth = r .depth;
+  form = r .form;
+  name = name;
+  size = r .size;
+  list = list;
+  tiles = tiles;
+  count = r .count;
+  opacity = r .opacity;
+  flags = r .flags;
+  dx = r .dx;
+  dy = r .dy;
+  mode = r .mode;
+  owner = r .owner;
+}
+
+-- of the row r that was lent and the row s that was read from the file f: the bytes of their names are the same
+abbrev pub SameName : List ℕ → List ℕ → Row → Row → Type 0
+SameName names f r s = part f (s .name) (s .size) ≡ part names (r .name) (r .size)
+
+-- the file f reads back: the reader, lent any table of the right length, gives the canvas and the rows; each row is the one lent but
+-- for fields 5, 7 and 8; each used row has its name; and the decoder, lent the file and that table, and buffers of the right length
+-- whatever they held before, gives its pixels with no mark
+pub record ReadsBack (c : Canvas) (table names pixels f lent : List ℕ) : Type 0 where
+  pub answer : reading f lent .answer
+      ≡ record {
+        number = 0;
+        place = 0;
+        width = c .width;
+        height = c .height;
+        base = c .base;
+        version = versionOf (drawablesFrom table (usedRows table) 0 names pixels);
+        compression = 1;
+        rows = usedRows table;
+      }
+  pub rows : (k : ℕ) → k < tableRows →
+      let s = rowAt (reading f lent .table) k in s ≡ withPlaces (rowAt table k) (s .name) (s .list) (s .tiles)
+  pub named : (k : ℕ) → k < usedRows table → SameName names f (rowAt table k) (rowAt (reading f lent .table) k)
+  pub decoded : (k : ℕ) → k < usedRows table → (buffer marks : List ℕ)
+      → fits (rowAt table k) (length buffer) (length marks) ≡ true
+      → decoding f (reading f lent .table) k 1 buffer marks
+      ≡ record {
+        answer = record { number = 0; place = 0; marked = 0 };
+        pixels = part pixels (pixelsSize table k 0) (pixelSize (rowAt table k));
+        marks = replicate (rowAt table k .count) 0;
+      }
+
+-- every input that the writer accepts; the numbers of a lent table have 32 bits
+abbrev pub RoundTrip : Type 0
+RoundTrip =
+    (c : Canvas) (table names pixels output lent : List ℕ) → ((i : ℕ) → getD table i 0 < 4294967296) → length lent ≡ tableSize →
+    let w = writing c table names pixels output in
+    w .answer .number ≡ 0 → ReadsBack c table names pixels (take (w .answer .length) (w .output)) lent

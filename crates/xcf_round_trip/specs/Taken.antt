@@ -1,0 +1,39 @@
+-- The rows that the writer takes are those that a reader could have given, less what document 01 excepts: a table with a reader's rows,
+-- but for what the writer excepts, is taken. (The other way round is the round trip: what is taken is read back.)
+use Prim.Native.Nat.{ℕ, _+_, _≤_, _<_}
+use mathlib.Core.Path.{_≡_}
+use mathlib.Core.List.{List}
+use Rattle.xcf_table.specs.declared.Row.{Row}
+use Rattle.xcf_table.specs.Table.{rowAt}
+use Rattle.xcf_read.specs.Answer.{reading}
+use Rattle.xcf_usable.specs.Usable.{tableRows, before, isActiveLayer, isActiveChannel, isSelection, badRow}
+use Rattle.xcf_round_trip.specs.RoundTrip.{withPlaces}
+
+-- what is asked of each row: 6 at most 1,024, 5 plus 6 at most the number of lent name bytes, 7 and 8 zero, mode at most 21, type at
+-- most 3, no group flag
+pub record RowExcepted (names : ℕ) (r : Row) : Type 0 where
+  pub short : r .size ≤ 1024
+  pub named : r .name + r .size ≤ names
+  pub list : r .list ≡ 0
+  pub tiles : r .tiles ≡ 0
+  pub mode : r .mode ≤ 21
+  pub form : r .form ≤ 3
+  pub ungrouped : r .flags < 16
+
+-- and of all: selection on at most one channel or mask, active on at most one layer and one channel or mask
+pub record RowsExcepted (table : List ℕ) : Type 0 where
+  pub selection : before isSelection table tableRows ≤ 1
+  pub layer : before isActiveLayer table tableRows ≤ 1
+  pub channel : before isActiveChannel table tableRows ≤ 1
+
+-- any file that is accepted, and any table with its rows but for fields 5, 7 and 8, and with no name place in an unused row
+abbrev pub GivenIsTaken : Type 0
+GivenIsTaken =
+    (file lent table : List ℕ) (names : ℕ) →
+    let x = reading file lent in
+    x .answer .number ≡ 0
+    → ((k : ℕ) → k < tableRows → let r = rowAt table k in r ≡ withPlaces (rowAt (x .table) k) (r .name) (r .list) (r .tiles))
+    → ((k : ℕ) → k < tableRows → RowExcepted names (rowAt table k))
+    → ((k : ℕ) → k < tableRows → rowAt table k .kind ≡ 0 → rowAt table k .name ≡ 0)
+    → RowsExcepted table
+    → badRow (record { width = x .answer .width; height = x .answer .height; base = x .answer .base }) names table ≡ tableRows

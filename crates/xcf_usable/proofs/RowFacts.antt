@@ -1,0 +1,291 @@
+-- What the tests of a usable row say: as facts by its kind (`row-use`), and then each group of facts from the row's kind.
+-- Assumes nothing.
+use Prim.Native.Nat.{ℕ, zero, suc, _+_, _*_, _≤_, _<_}
+use mathlib.Core.Path.{_≡_, refl}
+use mathlib.Core.List.{List, [], _∷_}
+use mathlib.Core.Bool.{Bool, true, false, _||_}
+use native.Mathlib.Omega.{arith}
+use borrow.Author.Tests.{ltb-true, leb-true, eqb-true, eq-eqb, ne-eqb}
+use lib.Dec.{leb, ltb, eqb}
+use Rattle.xcf_table.specs.declared.Row.{Row}
+use Rattle.xcf_table.specs.Table.{rowNumbers, rowAt}
+use Rattle.xcf_tile.specs.Grid.{tileCount}
+use Rattle.xcf_tile.proofs.Sizes.{within-bounds}
+use Rattle.xcf_read.specs.declared.drawable.Canvas.{Canvas}
+use Rattle.xcf_read.specs.Drawable.{sideOk, typeOk, depthOf}
+use Rattle.xcf_usable.specs.declared.seen.Seen.{Seen}
+use Rattle.xcf_usable.specs.Usable.{isLayer, isChannel, visible, apply, selection, active, layerFlagsOk, channelFlagsOk, isActiveLayer, isActiveChannel, isSelection, rowBefore, seenAt, masked, noSecond, drawableOk, layerOk, layerFollows, channelOk, maskFollows, channelFollows, allZero, usableRow, usable}
+use Rattle.xcf_usable.proofs.Each.{each}
+
+-- what every used row has
+pub record DrawableFacts (names : ℕ) (r : Row) : Type 0 where
+  pub wide : (1 ≤ r .width) × (r .width ≤ 16384)
+  pub high : (1 ≤ r .height) × (r .height ≤ 16384)
+  pub count : r .count ≡ tileCount (r .width) (r .height)
+  pub opaque : r .opacity ≤ 255
+  pub short : r .size ≤ 1024
+  pub named : r .name + r .size ≤ names
+  pub list : r .list ≡ 0
+  pub tiles : r .tiles ≡ 0
+  pub deep : (1 ≤ r .depth) × (r .depth ≤ 4)
+
+-- a layer's numbers
+pub record LayerFacts (c : Canvas) (k : ℕ) (r : Row) (hasMask : Bool) : Type 0 where
+  pub kind : r .kind ≡ 1
+  pub type : typeOk (c .base) (r .form) ≡ true
+  pub form : r .form ≤ 3
+  pub depth : r .depth ≡ depthOf (r .form)
+  pub mode : r .mode ≤ 21
+  pub owner : r .owner ≡ k
+  pub flags : r .flags ≡ visible r + 2 * apply r + 8 * active r
+  pub applied : hasMask ≡ false → apply r ≡ 0
+
+-- a mask's or channel's numbers
+pub record ChannelFacts (r : Row) : Type 0 where
+  pub depth : r .depth ≡ 1
+  pub form : r .form ≡ 2
+  pub mode : r .mode ≡ 0
+  pub flags : r .flags ≡ visible r + 4 * selection r + 8 * active r
+
+-- a mask behind its layer
+pub record MaskFacts (k : ℕ) (o r : Row) : Type 0 where
+  pub kind : r .kind ≡ 2
+  pub layer : o .kind ≡ 1
+  pub width : r .width ≡ o .width
+  pub height : r .height ≡ o .height
+  pub dx : r .dx ≡ o .dx
+  pub dy : r .dy ≡ o .dy
+  pub owner : r .owner + 1 ≡ k
+
+-- a channel of the canvas
+pub record CanvasFacts (c : Canvas) (k : ℕ) (r : Row) : Type 0 where
+  pub kind : r .kind ≡ 3
+  pub width : r .width ≡ c .width
+  pub height : r .height ≡ c .height
+  pub dx : r .dx ≡ 0
+  pub dy : r .dy ≡ 0
+  pub owner : r .owner ≡ k
+
+-- what comes before a layer, and before a channel
+pub record BeforeLayer (s : Seen) : Type 0 where
+  pub few : s .layers < 48
+  pub channels : s .channels ≡ 0
+  pub unused : s .unused ≡ 0
+
+pub record BeforeChannel (s : Seen) : Type 0 where
+  pub few : s .channels < 32
+  pub unused : s .unused ≡ 0
+
+-- a usable row, by its kind
+pub data Use (c : Canvas) (names k : ℕ) (s : Seen) (r : Row) (hasMask : Bool) : Type 0 where
+  unused : r .kind ≡ 0 → allZero (rowNumbers r) ≡ true → Use c names k s r hasMask
+  layer : DrawableFacts names r → LayerFacts c k r hasMask → BeforeLayer s → Use c names k s r hasMask
+  mask : DrawableFacts names r → ChannelFacts r → MaskFacts k (s .row) r → Use c names k s r hasMask
+  channel : DrawableFacts names r → ChannelFacts r → CanvasFacts c k r → BeforeChannel s → Use c names k s r hasMask
+
+depth-deep : (t : ℕ) → t ≤ 3 → (1 ≤ depthOf t) × (depthOf t ≤ 4)
+unfolding depthOf
+depth-deep zero h = omega arith
+depth-deep (suc zero) h = omega arith
+depth-deep (suc (suc zero)) h = omega arith
+depth-deep (suc (suc (suc zero))) h = omega arith
+depth-deep (suc (suc (suc (suc t)))) h = absurd (omega arith)
+
+or-first : (a b : Bool) → a || b ≡ true → b ≡ false → a ≡ true
+or-first true b e none = refl
+or-first false b e none = rw none at e
+
+drawable-says : (names : ℕ) (r : Row) → drawableOk names r ≡ true → (1 ≤ r .depth) × (r .depth ≤ 4) → DrawableFacts names r
+unfolding drawableOk sideOk
+drawable-says names r e deep =
+    let t =
+    each
+    (sideOk (r .width) ∷ sideOk (r .height) ∷ eqb (r .count) (tileCount (r .width) (r .height)) ∷ leb (r .opacity) 255
+    ∷ leb (r .size) 1024 ∷ leb (r .name + r .size) names ∷ eqb (r .list) 0 ∷ eqb (r .tiles) 0 ∷ [])
+    e in
+    record {
+      wide = within-bounds 1 16384 (r .width) (t 0);
+      high = within-bounds 1 16384 (r .height) (t 1);
+      count = eqb-true _ _ (t 2);
+      opaque = leb-true _ _ (t 3);
+      short = leb-true _ _ (t 4);
+      named = leb-true _ _ (t 5);
+      list = eqb-true _ _ (t 6);
+      tiles = eqb-true _ _ (t 7);
+      deep = deep;
+    }
+
+layer-says : (c : Canvas) (k : ℕ) (r : Row) (hasMask : Bool)
+    → r .kind ≡ 1 → layerOk c k r hasMask ≡ true → LayerFacts c k r hasMask
+unfolding layerOk
+layer-says c k r hasMask kind e =
+    let t =
+    each
+    (typeOk (c .base) (r .form) ∷ leb (r .form) 3 ∷ eqb (r .depth) (depthOf (r .form)) ∷ leb (r .mode) 21 ∷ eqb (r .owner) k
+    ∷ layerFlagsOk r ∷ (eqb (apply r) 0 || hasMask) ∷ [])
+    e in
+    record {
+      kind = kind;
+      type = t 0;
+      form = leb-true _ _ (t 1);
+      depth = eqb-true _ _ (t 2);
+      mode = leb-true _ _ (t 3);
+      owner = eqb-true _ _ (t 4);
+      flags = eqb-true _ _ (t 5);
+      applied = λ none. eqb-true _ _ (or-first (eqb (apply r) 0) hasMask (t 6) none);
+    }
+
+before-layer-says : (s : Seen) (r : Row) → layerFollows s r ≡ true → BeforeLayer s
+unfolding layerFollows
+before-layer-says s r e =
+    let t = each (ltb (s .layers) 48 ∷ eqb (s .channels) 0 ∷ eqb (s .unused) 0 ∷ noSecond (isActiveLayer r) (s .chosen) ∷ []) e in
+    record { few = ltb-true _ _ (t 0); channels = eqb-true _ _ (t 1); unused = eqb-true _ _ (t 2) }
+
+channel-says : (s : Seen) (r : Row) → channelOk s r ≡ true → ChannelFacts r
+unfolding channelOk
+channel-says s r e =
+    let t =
+    each
+    (eqb (r .depth) 1 ∷ eqb (r .form) 2 ∷ eqb (r .mode) 0 ∷ channelFlagsOk r ∷ noSecond (isActiveChannel r) (s .active)
+    ∷ noSecond (isSelection r) (s .selections) ∷ [])
+    e in
+    record { depth = eqb-true _ _ (t 0); form = eqb-true _ _ (t 1); mode = eqb-true _ _ (t 2); flags = eqb-true _ _ (t 3) }
+
+mask-says : (k : ℕ) (s : Seen) (r : Row) → r .kind ≡ 2 → maskFollows k s r ≡ true → MaskFacts k (s .row) r
+unfolding maskFollows
+mask-says k s r kind e =
+    let t =
+    each
+    (isLayer (s .row) ∷ eqb (r .width) (s .row .width) ∷ eqb (r .height) (s .row .height) ∷ eqb (r .dx) (s .row .dx)
+    ∷ eqb (r .dy) (s .row .dy) ∷ eqb (r .owner + 1) k ∷ [])
+    e in
+    record {
+      kind = kind;
+      layer = eqb-true _ _ (t 0);
+      width = eqb-true _ _ (t 1);
+      height = eqb-true _ _ (t 2);
+      dx = eqb-true _ _ (t 3);
+      dy = eqb-true _ _ (t 4);
+      owner = eqb-true _ _ (t 5);
+    }
+
+canvas-says : (c : Canvas) (k : ℕ) (s : Seen) (r : Row)
+    → r .kind ≡ 3 → channelFollows c k s r ≡ true → CanvasFacts c k r × BeforeChannel s
+unfolding channelFollows
+canvas-says c k s r kind e =
+    let t =
+    each
+    (eqb (r .width) (c .width) ∷ eqb (r .height) (c .height) ∷ eqb (r .dx) 0 ∷ eqb (r .dy) 0 ∷ eqb (r .owner) k
+    ∷ ltb (s .channels) 32 ∷ eqb (s .unused) 0 ∷ [])
+    e in (
+      record {
+        kind = kind;
+        width = eqb-true _ _ (t 0);
+        height = eqb-true _ _ (t 1);
+        dx = eqb-true _ _ (t 2);
+        dy = eqb-true _ _ (t 3);
+        owner = eqb-true _ _ (t 4);
+      },
+      record { few = ltb-true _ _ (t 5); unused = eqb-true _ _ (t 6) },
+    )
+
+row-says : (c : Canvas) (names k : ℕ) (s : Seen) (r : Row) (hasMask : Bool)
+    → usableRow c names k s r hasMask ≡ true → Use c names k s r hasMask
+unfolding usableRow
+row-says c names k s r hasMask e = go (r .kind) refl
+  where
+    one-deep : r .depth ≡ 1 → (1 ≤ r .depth) × (r .depth ≤ 4)
+    one-deep h = omega arith
+
+    go : (n : ℕ) → r .kind ≡ n → Use c names k s r hasMask
+    go zero h = unused h (rw (eq-eqb (r .kind) 0 h) at e)
+    go (suc zero) h =
+        let t =
+        each
+        (drawableOk names r ∷ layerOk c k r hasMask ∷ layerFollows s r ∷ [])
+        (rw (ne-eqb (r .kind) 0 (λ z. omega arith), eq-eqb (r .kind) 1 h) at e) in
+        let l = layer-says c k r hasMask h (t 1) in
+        layer (drawable-says names r (t 0) (rw (l .depth) (depth-deep (r .form) (l .form)))) l (before-layer-says s r (t 2))
+    go (suc (suc zero)) h =
+        let t =
+        each
+        (drawableOk names r ∷ channelOk s r ∷ maskFollows k s r ∷ [])
+        (rw (ne-eqb (r .kind) 0 (λ z. omega arith), ne-eqb (r .kind) 1 (λ z. omega arith), eq-eqb (r .kind) 2 h) at e) in
+        let ch = channel-says s r (t 1) in
+        mask (drawable-says names r (t 0) (one-deep (ch .depth))) ch (mask-says k s r h (t 2))
+    go (suc (suc (suc n))) h =
+        let t =
+        each
+        (isChannel r ∷ drawableOk names r ∷ channelOk s r ∷ channelFollows c k s r ∷ [])
+        (rw (ne-eqb (r .kind) 0 (λ z. omega arith), ne-eqb (r .kind) 1 (λ z. omega arith), ne-eqb (r .kind) 2 (λ z. omega arith)) at e) in
+        let ch = channel-says s r (t 2) in
+        let v = canvas-says c k s r (eqb-true _ _ (t 0)) (t 3) in
+        channel (drawable-says names r (t 1) (one-deep (ch .depth))) ch (v .0) (v .1)
+
+-- the facts of a kind from the row's kind
+module _ {c : Canvas} {names k : ℕ} {s : Seen} {r : Row} {hasMask : Bool} where
+  use-listed : Use c names k s r hasMask → r .kind ≤ 3
+  use-listed (unused h z) = omega arith
+  use-listed (layer d l b) = omega arith
+  use-listed (mask d ch m) = omega arith
+  use-listed (channel d ch v b) = omega arith
+
+  use-drawable : Use c names k s r hasMask → (r .kind ≡ 0 → ⊥) → DrawableFacts names r
+  use-drawable (unused h z) used = absurd (used h)
+  use-drawable (layer d l b) used = d
+  use-drawable (mask d ch m) used = d
+  use-drawable (channel d ch v b) used = d
+
+  use-layer : Use c names k s r hasMask → r .kind ≡ 1 → LayerFacts c k r hasMask × BeforeLayer s
+  use-layer (unused h z) one = absurd (omega arith)
+  use-layer (layer d l b) one = (l, b)
+  use-layer (mask d ch m) one = absurd (omega arith)
+  use-layer (channel d ch v b) one = absurd (omega arith)
+
+  use-numbers : Use c names k s r hasMask → (r .kind ≡ 0 → ⊥) → (r .kind ≡ 1 → ⊥) → ChannelFacts r
+  use-numbers (unused h z) used other = absurd (used h)
+  use-numbers (layer d l b) used other = absurd (other (l .kind))
+  use-numbers (mask d ch m) used other = ch
+  use-numbers (channel d ch v b) used other = ch
+
+  use-mask : Use c names k s r hasMask → r .kind ≡ 2 → MaskFacts k (s .row) r
+  use-mask (unused h z) two = absurd (omega arith)
+  use-mask (layer d l b) two = absurd (omega arith)
+  use-mask (mask d ch m) two = m
+  use-mask (channel d ch v b) two = absurd (omega arith)
+
+  use-channel : Use c names k s r hasMask → r .kind ≡ 3 → CanvasFacts c k r × BeforeChannel s
+  use-channel (unused h z) three = absurd (omega arith)
+  use-channel (layer d l b) three = absurd (omega arith)
+  use-channel (mask d ch m) three = absurd (omega arith)
+  use-channel (channel d ch v b) three = (v, b)
+
+module _ (c : Canvas) (names : ℕ) (table : List ℕ) (k : ℕ) (ok : usable c names table k ≡ true) where
+  pub row-use : Use c names k (seenAt table k) (rowAt table k) (masked table k)
+  unfolding usable
+  row-use = row-says c names k (seenAt table k) (rowAt table k) (masked table k) ok
+
+  pub kind-listed : rowAt table k .kind ≤ 3
+  kind-listed = use-listed row-use
+
+  pub drawable-facts : (rowAt table k .kind ≡ 0 → ⊥) → DrawableFacts names (rowAt table k)
+  drawable-facts = use-drawable row-use
+
+  pub layer-facts : rowAt table k .kind ≡ 1 → LayerFacts c k (rowAt table k) (masked table k)
+  layer-facts one = use-layer row-use one .0
+
+  pub layer-before : rowAt table k .kind ≡ 1 → BeforeLayer (seenAt table k)
+  layer-before one = use-layer row-use one .1
+
+  pub channel-facts : (rowAt table k .kind ≡ 0 → ⊥) → (rowAt table k .kind ≡ 1 → ⊥) → ChannelFacts (rowAt table k)
+  channel-facts = use-numbers row-use
+
+  pub mask-facts : rowAt table k .kind ≡ 2 → MaskFacts k (rowBefore table k) (rowAt table k)
+  unfolding seenAt
+  mask-facts = use-mask row-use
+
+  pub canvas-facts : rowAt table k .kind ≡ 3 → CanvasFacts c k (rowAt table k)
+  canvas-facts three = use-channel row-use three .0
+
+  pub channel-before : rowAt table k .kind ≡ 3 → BeforeChannel (seenAt table k)
+  channel-before three = use-channel row-use three .1

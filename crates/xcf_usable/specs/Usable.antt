@@ -1,0 +1,154 @@
+-- The rows that the writer takes: those that a reader could have given, less what it excepts.
+use Prim.Native.Nat.{ℕ, zero, suc, _+_, _*_, _/_, _%_}
+use mathlib.Core.List.{List, [], _∷_}
+use mathlib.Core.Bool.{Bool, true, cond, not, _&&_, _||_}
+use lib.Dec.{leb, ltb, eqb}
+use Rattle.xcf_table.specs.declared.Row.{Row}
+use Rattle.xcf_table.specs.Table.{rowSize, tableSize, rowNumbers, unusedRow, rowAt}
+use Rattle.xcf_tile.specs.Grid.{tileCount}
+use Rattle.xcf_read.specs.declared.drawable.Canvas.{Canvas}
+use Rattle.xcf_read.specs.Drawable.{sideOk, typeOk, depthOf}
+use Rattle.xcf_usable.specs.declared.seen.Seen.{Seen}
+
+-- a table's rows
+abbrev pub tableRows : ℕ
+tableRows = tableSize / rowSize
+
+-- a kind of row
+abbrev pub isLayer : Row → Bool
+isLayer r = eqb (r .kind) 1
+
+abbrev pub isMask : Row → Bool
+isMask r = eqb (r .kind) 2
+
+abbrev pub isChannel : Row → Bool
+isChannel r = eqb (r .kind) 3
+
+abbrev pub isUnused : Row → Bool
+isUnused r = eqb (r .kind) 0
+
+-- flags: 1 visible, 2 apply mask, 4 selection, 8 active; 1 or 0 as the flag is set or not
+abbrev pub visible : Row → ℕ
+visible r = r .flags % 2
+
+abbrev pub apply : Row → ℕ
+apply r = r .flags / 2 % 2
+
+abbrev pub selection : Row → ℕ
+selection r = r .flags / 4 % 2
+
+abbrev pub active : Row → ℕ
+active r = r .flags / 8 % 2
+
+-- no other flags than a layer has, or than a mask or channel has
+abbrev pub layerFlagsOk : Row → Bool
+layerFlagsOk r = eqb (r .flags) (visible r + 2 * apply r + 8 * active r)
+
+abbrev pub channelFlagsOk : Row → Bool
+channelFlagsOk r = eqb (r .flags) (visible r + 4 * selection r + 8 * active r)
+
+-- active on at most one layer; active and selection on at most one channel or mask
+abbrev pub isActiveLayer : Row → Bool
+isActiveLayer r = isLayer r && eqb (active r) 1
+
+abbrev pub isActiveChannel : Row → Bool
+isActiveChannel r = not (isLayer r) && eqb (active r) 1
+
+abbrev pub isSelection : Row → Bool
+isSelection r = not (isLayer r) && eqb (selection r) 1
+
+-- how many of the rows before row k pass a test
+unfoldable pub before : (Row → Bool) → List ℕ → ℕ → ℕ
+before test table zero = 0
+before test table (suc k) = before test table k + cond (test (rowAt table k)) 1 0
+
+-- the row before row k
+unfoldable pub rowBefore : List ℕ → ℕ → Row
+rowBefore table zero = unusedRow
+rowBefore table (suc k) = rowAt table k
+
+-- what the rows before row k are
+unfoldable pub seenAt : List ℕ → ℕ → Seen
+seenAt table k = record {
+  layers = before isLayer table k;
+  channels = before isChannel table k;
+  unused = before isUnused table k;
+  chosen = before isActiveLayer table k;
+  active = before isActiveChannel table k;
+  selections = before isSelection table k;
+  row = rowBefore table k;
+}
+
+-- row k has a mask: the next row's kind is 2
+unfoldable pub masked : List ℕ → ℕ → Bool
+masked table k = ltb k tableRows && isMask (rowAt table (k + 1))
+
+-- a row is not a second one, where so many came before it
+abbrev pub noSecond : Bool → ℕ → Bool
+noSecond is n = not is || eqb n 0
+
+-- what every used row has: sides, as many tiles as they take, opacity, a name among so many lent bytes, and no places in a file
+unfoldable pub drawableOk : ℕ → Row → Bool
+drawableOk names r =
+    sideOk (r .width)
+    && (sideOk (r .height)
+    && (eqb (r .count) (tileCount (r .width) (r .height))
+    && (leb (r .opacity) 255 && (leb (r .size) 1024 && (leb (r .name + r .size) names && (eqb (r .list) 0 && eqb (r .tiles) 0))))))
+
+-- a layer's numbers: its type is 0 to 3 and the image's; it applies a mask only where it has one
+unfoldable pub layerOk : Canvas → ℕ → Row → Bool → Bool
+layerOk c k r hasMask =
+    typeOk (c .base) (r .form)
+    && (leb (r .form) 3
+    && (eqb (r .depth) (depthOf (r .form))
+    && (leb (r .mode) 21 && (eqb (r .owner) k && (layerFlagsOk r && (eqb (apply r) 0 || hasMask))))))
+
+-- at most 48 layers, all before the channels and the unused rows, one of them active
+unfoldable pub layerFollows : Seen → Row → Bool
+layerFollows s r = ltb (s .layers) 48 && (eqb (s .channels) 0 && (eqb (s .unused) 0 && noSecond (isActiveLayer r) (s .chosen)))
+
+-- a mask's or channel's numbers; one of them is active and one the selection
+unfoldable pub channelOk : Seen → Row → Bool
+channelOk s r =
+    eqb (r .depth) 1
+    && (eqb (r .form) 2
+    && (eqb (r .mode) 0 && (channelFlagsOk r && (noSecond (isActiveChannel r) (s .active) && noSecond (isSelection r) (s .selections)))))
+
+-- a mask comes directly after its layer, and has its sides and offsets
+unfoldable pub maskFollows : ℕ → Seen → Row → Bool
+maskFollows k s r =
+    isLayer (s .row)
+    && (eqb (r .width) (s .row .width)
+    && (eqb (r .height) (s .row .height) && (eqb (r .dx) (s .row .dx) && (eqb (r .dy) (s .row .dy) && eqb (r .owner + 1) k))))
+
+-- at most 32 channels, all before the unused rows, with the canvas's sides
+unfoldable pub channelFollows : Canvas → ℕ → Seen → Row → Bool
+channelFollows c k s r =
+    eqb (r .width) (c .width)
+    && (eqb (r .height) (c .height)
+    && (eqb (r .dx) 0 && (eqb (r .dy) 0 && (eqb (r .owner) k && (ltb (s .channels) 32 && eqb (s .unused) 0)))))
+
+-- numbers that are all 0
+unfoldable pub allZero : List ℕ → Bool
+allZero [] = true
+allZero (n ∷ ns) = eqb n 0 && allZero ns
+
+-- row k, behind the rows seen: an unused row is zero
+unfoldable pub usableRow : Canvas → ℕ → ℕ → Seen → Row → Bool → Bool
+usableRow c names k s r hasMask =
+    cond (isUnused r) (allZero (rowNumbers r))
+    (cond (isLayer r) (drawableOk names r && (layerOk c k r hasMask && layerFollows s r))
+    (cond (isMask r) (drawableOk names r && (channelOk s r && maskFollows k s r))
+    (isChannel r && (drawableOk names r && (channelOk s r && channelFollows c k s r)))))
+
+unfoldable pub usable : Canvas → ℕ → List ℕ → ℕ → Bool
+usable c names table k = usableRow c names k (seenAt table k) (rowAt table k) (masked table k)
+
+-- of n rows from row k on, the lowest that is not usable, or the row behind them
+unfoldable pub badFrom : Canvas → ℕ → List ℕ → ℕ → ℕ → ℕ
+badFrom c names table zero k = k
+badFrom c names table (suc n) k = cond (usable c names table k) (badFrom c names table n (k + 1)) k
+
+-- the lowest bad row, or the number of rows where all are usable
+unfoldable pub badRow : Canvas → ℕ → List ℕ → ℕ
+badRow c names table = badFrom c names table tableRows 0

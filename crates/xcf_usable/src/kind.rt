@@ -1,0 +1,94 @@
+// What a row of each kind has to be.
+ghost use mathlib.Core.Path.{_≡_};
+ghost use Rattle.xcf_usable.specs.Usable.{layerFlagsOk, channelFlagsOk, drawableOk, layerOk, layerFollows, channelOk, maskFollows, channelFollows};
+use crate::seen::Seen;
+use crate::seen::is_active_channel;
+use crate::seen::is_active_layer;
+use crate::seen::is_selection;
+use xcf_read::drawable::Canvas;
+use xcf_read::drawable::depth_of;
+use xcf_read::drawable::side_ok;
+use xcf_read::drawable::type_ok;
+use xcf_table::Row;
+use xcf_tile::grid::tile_count;
+
+// No flags but visible, apply mask and active.
+fn layer_flags_ok(row: Row) -> bool
+    ensures { λ r. ⌜ r ≡ layerFlagsOk row ⌝ }
+{
+    let f = row.flags;
+    f == f % 2 + 2 * (f / 2 % 2) + 8 * (f / 8 % 2)
+}
+
+// No flags but visible, selection and active.
+fn channel_flags_ok(row: Row) -> bool
+    ensures { λ r. ⌜ r ≡ channelFlagsOk row ⌝ }
+{
+    let f = row.flags;
+    f == f % 2 + 4 * (f / 4 % 2) + 8 * (f / 8 % 2)
+}
+
+// The numbers of any used row.
+pub(crate) fn drawable_ok(names: usize, row: Row) -> bool
+    ensures { λ r. ⌜ r ≡ drawableOk names row ⌝ }
+{
+    let tiles = tile_count(row.width, row.height);
+    let name_end = row.name as u64 + row.size as u64;
+    side_ok(row.width)
+        & (side_ok(row.height)
+            & ((row.count as u64 == tiles)
+                & ((row.opacity <= 255)
+                    & ((row.size <= 1024)
+                        & ((name_end <= names as u64) & ((row.list == 0) & (row.tiles == 0)))))))
+}
+
+pub(crate) fn layer_ok(canvas: Canvas, k: u32, row: Row, masked: bool) -> bool
+    ensures { λ r. ⌜ r ≡ layerOk canvas k row masked ⌝ }
+{
+    let apply = row.flags / 2 % 2;
+    type_ok(canvas.base, row.form)
+        & ((row.form <= 3)
+            & ((row.depth == depth_of(row.form))
+                & ((row.mode <= 21)
+                    & ((row.owner == k) & (layer_flags_ok(row) & ((apply == 0) | masked))))))
+}
+
+pub(crate) fn layer_follows(seen: Seen, row: Row) -> bool
+    ensures { λ r. ⌜ r ≡ layerFollows seen row ⌝ }
+{
+    (seen.layers < 48)
+        & ((seen.channels == 0)
+            & ((seen.unused == 0) & (!is_active_layer(row) | (seen.chosen == 0))))
+}
+
+pub(crate) fn channel_ok(seen: Seen, row: Row) -> bool
+    ensures { λ r. ⌜ r ≡ channelOk seen row ⌝ }
+{
+    (row.depth == 1)
+        & ((row.form == 2)
+            & ((row.mode == 0)
+                & (channel_flags_ok(row)
+                    & ((!is_active_channel(row) | (seen.active == 0))
+                        & (!is_selection(row) | (seen.selections == 0))))))
+}
+
+pub(crate) fn mask_follows(k: u32, seen: Seen, row: Row) -> bool
+    ensures { λ r. ⌜ r ≡ maskFollows k seen row ⌝ }
+{
+    let layer = seen.row;
+    (layer.kind == 1)
+        & ((row.width == layer.width)
+            & ((row.height == layer.height)
+                & ((row.dx == layer.dx)
+                    & ((row.dy == layer.dy) & (row.owner as u64 + 1 == k as u64)))))
+}
+
+pub(crate) fn channel_follows(canvas: Canvas, k: u32, seen: Seen, row: Row) -> bool
+    ensures { λ r. ⌜ r ≡ channelFollows canvas k seen row ⌝ }
+{
+    (row.width == canvas.width)
+        & ((row.height == canvas.height)
+            & ((row.dx == 0)
+                & ((row.dy == 0)
+                    & ((row.owner == k) & ((seen.channels < 32) & (seen.unused == 0))))))
+}

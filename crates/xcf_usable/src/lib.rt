@@ -1,0 +1,30 @@
+// The rows that the writer takes.
+mod kind;
+pub mod row;
+mod seen;
+
+ghost use mathlib.Core.Path.{_≡_};
+ghost use Rattle.xcf_usable.specs.Usable.{badRow};
+use crate::row::usable;
+use crate::seen::none;
+use crate::seen::see;
+use xcf_read::drawable::Canvas;
+
+pub const TABLE_ROWS: u32 = 128;
+
+// The lowest row of the table that is not usable, or 128; names is how many bytes are lent for the names.
+pub fn bad_row(canvas: Canvas, names: usize, table: &[u32]) -> u32
+    ensures { λ r. ⌜ r ≡ badRow canvas names (now (table .entry)) ⌝ }
+{
+    let mut k: u32 = 0;
+    let mut seen = none(table);
+    while k < TABLE_ROWS {
+        if usable(canvas, names, table, k, seen) {
+            seen = see(table, k, seen);
+            k += 1;
+        } else {
+            return k;
+        }
+    }
+    k
+}

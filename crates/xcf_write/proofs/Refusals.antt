@@ -1,0 +1,24 @@
+-- What is refused before the file is measured, by the tests in their order.
+-- Assumes nothing.
+use Prim.Native.Nat.{ℕ}
+use mathlib.Core.Path.{_≡_}
+use mathlib.Core.List.{List}
+use borrow.Author.Tests.{eq-eqb, ne-eqb}
+use Rattle.xcf_read.specs.declared.drawable.Canvas.{Canvas}
+use Rattle.xcf_usable.specs.Usable.{tableRows, badRow}
+use Rattle.xcf_write.specs.File.{pixelsSize}
+use Rattle.xcf_write.specs.Answer.{answered, usedRows, rowsRefusal}
+
+module _ (c : Canvas) (table : List ℕ) (names pixels : ℕ) {bad : ℕ} (e : bad ≡ badRow c names table) where
+  pub bad-refused : (bad ≡ tableRows → ⊥) → answered 17 bad 0 ≡ rowsRefusal c table names pixels
+  unfolding rowsRefusal
+  bad-refused h = rw (← e, ne-eqb bad tableRows h)
+
+  module _ (good : bad ≡ tableRows) {n size : ℕ} (used : n ≡ usedRows table) (whole : size ≡ pixelsSize table n 0) where
+    pub none-refused : pixels ≡ size → answered 0 0 0 ≡ rowsRefusal c table names pixels
+    unfolding rowsRefusal
+    none-refused h = rw (← e, eq-eqb bad tableRows good, ← used, ← whole, eq-eqb pixels size h)
+
+    pub pixels-refused : (pixels ≡ size → ⊥) → answered 11 0 0 ≡ rowsRefusal c table names pixels
+    unfolding rowsRefusal
+    pixels-refused h = rw (← e, eq-eqb bad tableRows good, ← used, ← whole, ne-eqb pixels size h)

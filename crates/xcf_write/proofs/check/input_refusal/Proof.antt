@@ -1,0 +1,98 @@
+-- `input_refusal` meets its contract, by its tests in their order.
+use borrow.Author.Needs.{needs}
+use borrow.Author.Tests.{eq-eqb, ne-eqb, le-leb, lt-leb}
+use Rattle.xcf_write.specs.Answer.{inputRefusal}
+use Rattle.xcf_write.proofs.check.input_refusal.Statement.{statement}
+use Rattle.xcf_write.proofs.check.input_refusal.Tie as tie
+
+answered-requires : tie.Need-answered-requires
+answered-requires c κs = search needs
+
+returns : tie.Need-returns
+unfolding inputRefusal
+returns c = rw (ne-eqb _ _ (c .before .if1 .taken)) (c .answered .ensures)
+
+side-ok-requires : tie.Need-side-ok-requires
+side-ok-requires c κs = search needs
+
+side-ok-requires-2 : tie.Need-side-ok-requires-2
+side-ok-requires-2 c κs = search needs
+
+rows-refusal-requires : tie.Need-rows-refusal-requires
+rows-refusal-requires c κs = search needs
+
+returns-2 : tie.Need-returns-2
+unfolding inputRefusal
+returns-2 c =
+    let high = c .before .before .before .before in
+    let wide = high .before .before in
+    rw (
+      eq-eqb _ _ (wide .before .if1 .left),
+      ← wide .side-ok .ensures,
+      high .before .if2 .taken,
+      ← high .side-ok2 .ensures,
+      c .before .before .before .if3 .taken,
+      le-leb _ _ (c .before .if4 .taken),
+    )
+    (c .rows-refusal .ensures)
+
+answered-requires-2 : tie.Need-answered-requires-2
+answered-requires-2 c κs = search needs
+
+returns-3 : tie.Need-returns-3
+unfolding inputRefusal
+returns-3 c =
+    let high = c .before .before .before .before in
+    let wide = high .before .before in
+    rw (
+      eq-eqb _ _ (wide .before .if1 .left),
+      ← wide .side-ok .ensures,
+      high .before .if2 .taken,
+      ← high .side-ok2 .ensures,
+      c .before .before .before .if3 .taken,
+      lt-leb _ _ (c .before .if4 .left),
+    )
+    (c .answered2 .ensures)
+
+answered-requires-3 : tie.Need-answered-requires-3
+answered-requires-3 c κs = search needs
+
+returns-4 : tie.Need-returns-4
+unfolding inputRefusal
+returns-4 c =
+    let high = c .before .before in
+    let wide = high .before .before in
+    rw (
+      eq-eqb _ _ (wide .before .if1 .left),
+      ← wide .side-ok .ensures,
+      high .before .if2 .taken,
+      ← high .side-ok2 .ensures,
+      c .before .if3 .left,
+    )
+    (c .answered3 .ensures)
+
+answered-requires-4 : tie.Need-answered-requires-4
+answered-requires-4 c κs = search needs
+
+returns-5 : tie.Need-returns-5
+unfolding inputRefusal
+returns-5 c =
+    let wide = c .before .before in
+    rw (eq-eqb _ _ (wide .before .if1 .left), ← wide .side-ok .ensures, c .before .if2 .left) (c .answered4 .ensures)
+
+pub input-refusal-spec : {M : Type 1} → statement M
+input-refusal-spec =
+    tie.close
+    (tie.spec
+    answered-requires
+    returns
+    side-ok-requires
+    side-ok-requires-2
+    rows-refusal-requires
+    returns-2
+    answered-requires-2
+    returns-3
+    answered-requires-3
+    returns-4
+    answered-requires-4
+    returns-5)

@@ -1,0 +1,70 @@
+-- What the writer answers, and what it leaves in the output.
+use Prim.Native.Nat.{ℕ}
+use mathlib.Core.Path.{_≡_}
+use mathlib.Core.List.{List, [], _∷_, _++_}
+use mathlib.Core.Bool.{cond, _&&_}
+use lib.ListN.{length, drop}
+use lib.Dec.{leb, eqb}
+use Rattle.xcf_table.specs.Table.{tableSize}
+use Rattle.xcf_read.specs.declared.drawable.Canvas.{Canvas}
+use Rattle.xcf_read.specs.Drawable.{sideOk}
+use Rattle.xcf_read.specs.Answer.{fileLimit}
+use Rattle.xcf_usable.specs.Usable.{tableRows, badRow}
+use Rattle.xcf_write.specs.declared.WriteAnswer.{WriteAnswer}
+use Rattle.xcf_write.specs.File.{fileBytes, usedFrom, pixelsSize, drawablesFrom}
+
+-- a number, its place and a length
+abbrev pub answered : ℕ → ℕ → ℕ → WriteAnswer
+answered n p size = record { number = n; place = p; length = size }
+
+-- the rows that are used, and the file that they are written as
+abbrev pub usedRows : List ℕ → ℕ
+usedRows table = usedFrom table tableRows 0
+
+unfoldable pub fileOf : Canvas → List ℕ → List ℕ → List ℕ → List ℕ
+fileOf c table names pixels = fileBytes c (drawablesFrom table (usedRows table) 0 names pixels)
+
+-- what is refused before the file is made: 17 at the lowest bad row, then 11 for the pixels; else number 0
+unfoldable pub rowsRefusal : Canvas → List ℕ → ℕ → ℕ → WriteAnswer
+rowsRefusal c table names pixels =
+    cond (eqb (badRow c names table) tableRows)
+    (cond (eqb pixels (pixelsSize table (usedRows table) 0)) (answered 0 0 0) (answered 11 0 0))
+    (answered 17 (badRow c names table) 0)
+
+-- and before that 11 for the table, 4 and 5
+unfoldable pub inputRefusal : Canvas → List ℕ → ℕ → ℕ → WriteAnswer
+inputRefusal c table names pixels =
+    cond (eqb (length table) tableSize)
+    (cond (sideOk (c .width))
+    (cond (sideOk (c .height)) (cond (leb (c .base) 1) (rowsRefusal c table names pixels) (answered 5 22 0)) (answered 4 18 0))
+    (answered 4 14 0))
+    (answered 11 0 0)
+
+-- then 18 where the file would exceed the lent output or the limit
+unfoldable pub writeAnswer : WriteAnswer → ℕ → ℕ → WriteAnswer
+writeAnswer refusal size room =
+    cond (eqb (refusal .number) 0) (cond (leb size room && leb size fileLimit) (answered 0 0 size) (answered 18 0 0)) refusal
+
+-- the file at the output's start; the rest, and on a refusal all of it, as lent
+unfoldable pub writeOutput : WriteAnswer → List ℕ → List ℕ → List ℕ
+writeOutput answer file old = cond (eqb (answer .number) 0) (file ++ drop (length file) old) old
+
+-- an answer, and the output's content beside it
+pub record Writing : Type 0 where
+  pub answer : WriteAnswer
+  pub output : List ℕ
+
+unfoldable pub writing : Canvas → List ℕ → List ℕ → List ℕ → List ℕ → Writing
+writing c table names pixels output =
+    let file = fileOf c table names pixels in
+    let answer = writeAnswer (inputRefusal c table (length names) (length pixels)) (length file) (length output) in
+    record { answer = answer; output = writeOutput answer file output }
+
+-- the numbers that it answers
+abbrev pub writerNumbers : List ℕ
+writerNumbers = 0 ∷ 4 ∷ 5 ∷ 11 ∷ 17 ∷ 18 ∷ []
+
+-- the writer's promise: its answer r, and the output's new content
+pub record Written (c : Canvas) (table names pixels old : List ℕ) (r : WriteAnswer) (new : List ℕ) : Type 0 where
+  pub answer : r ≡ writing c table names pixels old .answer
+  pub output : new ≡ writing c table names pixels old .output

@@ -1,0 +1,4 @@
+pub mod Structure
+pub mod File
+pub mod Answer
+pub mod Parts
