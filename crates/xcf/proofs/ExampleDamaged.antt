@@ -1,7 +1,7 @@
 -- The wide file and its damaged copy: they differ in one byte (`differ-at`), which no structure has (`no-structure`), which the window
 -- of tile 0 has (`in-window`) and that of tile 1 does not (`not-in-window`). What the reader gives and the decoder shows is computed.
 -- Assumes nothing.
-use Prim.Native.Nat.{ℕ, _+_, _-_, _<_}
+use Prim.Native.Nat.{ℕ, _-_, _<_}
 use mathlib.Core.Path.{_≡_, refl, sym, _∙_}
 use mathlib.Core.List.{List, [], _∷_, _++_}
 use mathlib.Core.Bool.{Bool, true, false}

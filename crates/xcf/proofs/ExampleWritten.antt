@@ -1,6 +1,5 @@
 -- The example file of document 01 is written: the tests of its table and its bytes are computed.
 -- Assumes nothing.
-use Prim.Native.Nat.{ℕ}
 use mathlib.Core.Path.{_≡_, refl}
 use mathlib.Core.List.{[], _∷_}
 use borrow.Author.Tests.{le-leb}

@@ -72,8 +72,7 @@ ExampleFileIsRead =
 abbrev pub WrittenReadsBack : Type 0
 WrittenReadsBack = RoundTrip
 
--- And the writer takes every table with the rows that a reader gave, but for what document 01 excepts; in full in
--- `xcf_round_trip/specs/Taken.antt`.
+-- And no row that a reader gave is bad for the writer, but for what document 01 excepts; in full in `xcf_round_trip/specs/Taken.antt`.
 abbrev pub GivenRowsAreTaken : Type 0
 GivenRowsAreTaken = GivenIsTaken
 

@@ -2,7 +2,7 @@
 -- (`pixel-byte`), each pixel has exactly one tile (`one-tile`), and what the pixels show of a tile is that tile (`tile-shown`).
 -- By the arithmetic of the grid.
 -- Assumes nothing.
-use Prim.Native.Nat.{ℕ, zero, _+_, _-_, _*_, _/_, _%_, _≤_, _<_}
+use Prim.Native.Nat.{ℕ, zero, _+_, _*_, _/_, _%_, _≤_, _<_}
 use mathlib.Core.Path.{_≡_, refl, _∙_, sym, ap}
 use mathlib.Core.List.{List}
 use native.Mathlib.Nat.{mod-lt, div-add-mod, div-lt-iff-lt-mul, zero-add}

@@ -1,4 +1,4 @@
-// StreamsRoom of n bytes each, one behind the other: measured and encoded.
+// Streams of n bytes each, one behind the other: measured and encoded.
 ghost use mathlib.Core.Path.{_≡_};
 ghost use Prim.Native.Nat.{_≤_};
 ghost use lib.ListN.{length};

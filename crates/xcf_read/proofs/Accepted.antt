@@ -1,17 +1,32 @@
--- The reader's number is 0 exactly where the walk gives an image: a refusal has a number of the list, and 0 is not in it.
+-- The reader's number is 0 exactly where the walk gives an image (`accepted-exactly`): a refusal has a number of the list, and 0 is not
+-- in it. Then the lent table and the file are no wrong size (`accepted-sized`), and the reading is the walk's (`read-walked`).
 -- Assumes nothing.
 use Prim.Native.Nat.{ℕ, _≤_}
 use mathlib.Core.Path.{_≡_, refl, sym, _∙_, ap}
 use mathlib.Core.List.{List}
 use mathlib.Core.Bool.{true, false≢true}
-use borrow.Author.Tests.{le-leb, eq-eqb}
+use native.Mathlib.Omega.{arith}
+use borrow.Author.Tests.{le-leb, leb-true, eq-eqb, eqb-true}
+use lib.Dec.{leb, eqb}
 use lib.ListN.{length}
 use Rattle.xcf_walk.specs.Walk.{Outcome, got, refused, run}
 use Rattle.xcf_table.specs.Table.{tableSize}
+use Rattle.xcf_tile.proofs.Cases.{by-cases}
 use Rattle.xcf_read.specs.Hierarchy.{pointerSize}
 use Rattle.xcf_read.specs.Image.{Image, image}
-use Rattle.xcf_read.specs.Answer.{fileLimit, listed, readingOf, reading}
+use Rattle.xcf_read.specs.Answer.{fileLimit, listed, Reading, readingOf, reading}
 use Rattle.xcf_read.proofs.Numbers.{refusals-listed}
+
+-- neither 11 nor 15
+pub accepted-sized : (f lent : List ℕ) → reading f lent .answer .number ≡ 0 → (length lent ≡ tableSize) × (length f ≤ fileLimit)
+unfolding reading
+accepted-sized f lent =
+    by-cases Says (eqb (length lent) tableSize) _ _
+    (λ e. by-cases Says (leb (length f) fileLimit) _ _ (λ l _. (eqb-true _ _ e, leb-true _ _ l)) (λ _ n. absurd (omega arith)))
+    (λ _ n. absurd (omega arith))
+  where
+    Says : Reading → Type 0
+    Says x = x .answer .number ≡ 0 → (length lent ≡ tableSize) × (length f ≤ fileLimit)
 
 -- what a walk gives, a reading gives
 pub read-walked : (f lent : List ℕ) {x : Image} {q : ℕ} → length lent ≡ tableSize → length f ≤ fileLimit → run (image pointerSize) f 0 ≡ got x q

@@ -14,7 +14,7 @@ use Rattle.xcf_decode.specs.Answer.{inRange, inFile, usableRow, fits, refusal, 
 use Rattle.xcf_decode.proofs.TilePointers.{tiles-inside}
 use Rattle.xcf_write.specs.File.{Drawable, drawableBytes}
 use Rattle.xcf_write.specs.Parts.{Writable}
-use Rattle.xcf_round_trip.specs.Parts.{Stands, readRow}
+use Rattle.xcf_round_trip.proofs.Parts.{Stands, readRow}
 use Rattle.xcf_round_trip.proofs.TilesDecoded.{row-decoding}
 use Rattle.xcf_round_trip.proofs.PointersStand.{pointed, walked}
 

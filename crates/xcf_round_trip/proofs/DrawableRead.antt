@@ -24,7 +24,7 @@ use Rattle.xcf_write.specs.Structure.{structureBytes}
 use Rattle.xcf_write.specs.File.{Drawable, tilesOf, joined, drawableSize, drawableBytes}
 use Rattle.xcf_write.specs.Parts.{Writable}
 use Rattle.xcf_write.proofs.DrawableLength.{tiles-counted, starts-length, hierarchyAt, levelAt, tilesAt, maskAt, structureOf, hierarchyOf, levelOf, structure-size, hierarchy-size, level-size, drawable-length}
-use Rattle.xcf_round_trip.specs.Parts.{Stands, Gives, propertiesOf, sidesSize, readRow}
+use Rattle.xcf_round_trip.proofs.Parts.{Stands, Gives, propertiesOf, sidesSize, readRow}
 use Rattle.xcf_round_trip.proofs.Stands.{stands-front, stands-behind}
 use Rattle.xcf_round_trip.proofs.Steps.{reads-gives, gives-reads, then, ends, ends-as, reads-jump}
 use Rattle.xcf_round_trip.proofs.NameRead.{name-stands}

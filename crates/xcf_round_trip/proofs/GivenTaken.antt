@@ -1,23 +1,20 @@
 -- The theorem of specs.Taken: a table with the rows that the reader gave for an accepted file, but for what the writer excepts, is
 -- taken. The used rows along the image's walk, and the rows behind them as unused ones.
 -- Assumes nothing.
-use Prim.Native.Nat.{ℕ, _≤_, _<_}
+use Prim.Native.Nat.{ℕ, _<_}
 use mathlib.Core.Path.{_≡_, sym, ap, subst}
 use mathlib.Core.List.{List}
 use mathlib.Core.Logic.{⊎-elim}
 use native.Mathlib.Omega.{arith}
-use borrow.Author.Tests.{eqb-true, leb-true}
-use lib.Dec.{eqb, leb}
-use lib.ListN.{length}
 use Rattle.xcf_walk.specs.Walk.{got, run}
 use Rattle.xcf_walk.proofs.Cases.{below-or}
 use Rattle.xcf_table.specs.declared.Row.{Row}
-use Rattle.xcf_table.specs.Table.{tableSize, rowAt, tableOf}
-use Rattle.xcf_tile.proofs.Cases.{by-cases}
+use Rattle.xcf_table.specs.Table.{rowAt, tableOf}
 use Rattle.xcf_read.specs.Hierarchy.{pointerSize}
 use Rattle.xcf_read.specs.Image.{Image, canvasOf, image}
-use Rattle.xcf_read.specs.Answer.{fileLimit, Reading, readingOf, reading}
-use Rattle.xcf_read.proofs.Accepted.{read-walked, accepted-exactly}
+use Rattle.xcf_read.specs.Answer.{Reading, readingOf, reading}
+use Rattle.xcf_table.proofs.Tables.{table-row, table-unused}
+use Rattle.xcf_read.proofs.Accepted.{accepted-sized, read-walked, accepted-exactly}
 use Rattle.xcf_read.proofs.AcceptedRows.{accepted-rows}
 use Rattle.xcf_usable.specs.Usable.{tableRows, badRow}
 use Rattle.xcf_round_trip.specs.Taken.{RowExcepted, RowsExcepted, GivenIsTaken}
@@ -26,18 +23,6 @@ use Rattle.xcf_round_trip.proofs.RowTaken.{unused-taken}
 use Rattle.xcf_round_trip.proofs.RowsShown.{Shown}
 use Rattle.xcf_round_trip.proofs.ImageTaken.{ensures-taken}
 use Rattle.xcf_round_trip.proofs.NoneBad.{none-bad}
-use Rattle.xcf_round_trip.proofs.TableShown.{table-row, table-unused}
-
--- neither 11 nor 15
-sized : (f lent : List ℕ) → reading f lent .answer .number ≡ 0 → (length lent ≡ tableSize) × (length f ≤ fileLimit)
-unfolding reading
-sized f lent =
-    by-cases Says (eqb (length lent) tableSize) _ _
-    (λ e. by-cases Says (leb (length f) fileLimit) _ _ (λ l _. (eqb-true _ _ e, leb-true _ _ l)) (λ _ n. absurd (omega arith)))
-    (λ _ n. absurd (omega arith))
-  where
-    Says : Reading → Type 0
-    Says x = x .answer .number ≡ 0 → (length lent ≡ tableSize) × (length f ≤ fileLimit)
 
 module _ (file table : List ℕ) (names : ℕ) (x : Image) (q : ℕ) (walked : got x q ≡ run (image pointerSize) file 0)
     (same : (k : ℕ) → k < tableRows → Like (rowAt table k) (rowAt (tableOf (x .rows)) k))
@@ -66,7 +51,7 @@ module _ (file table : List ℕ) (names : ℕ) (x : Image) (q : ℕ) (walked : g
 pub given-is-taken : GivenIsTaken
 unfolding canvasOf
 given-is-taken file lent table names accepted same excepted unnamed once =
-    let s = sized file lent accepted in
+    let s = accepted-sized file lent accepted in
     let w = accepted-exactly file lent (s .0) (s .1) .0 accepted in
     let e : reading file lent ≡ readingOf (got (w .0) (w .1)) = read-walked file lent (s .0) (s .1) (sym (w .2)) in
     subst

@@ -27,7 +27,7 @@ use Rattle.xcf_write.proofs.Words.{words-length}
 use Rattle.xcf_write.proofs.ImageLength.{version-old-or-new, tag-length, image-length}
 use Rattle.xcf_write.proofs.FileLaws.{places-count, version-rows, rows-length}
 use Rattle.xcf_write.proofs.Accepted.{InputAccepted}
-use Rattle.xcf_round_trip.specs.Parts.{Stands, Gives, Rises, addAll}
+use Rattle.xcf_round_trip.proofs.Parts.{Stands, Gives, Rises, addAll}
 use Rattle.xcf_round_trip.proofs.Stands.{stands-front, stands-behind}
 use Rattle.xcf_round_trip.proofs.Steps.{Reads, reads-gives, gives-reads, then, then-here, ends, ends-as, reads-bytes, reads-must}
 use Rattle.xcf_round_trip.proofs.WordsRead.{words-rest, reads-number}

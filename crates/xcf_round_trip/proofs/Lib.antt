@@ -1,3 +1,4 @@
+pub mod Parts
 pub mod Stands
 pub mod Steps
 pub mod WordsRead
@@ -30,5 +31,4 @@ pub mod RowsShown
 pub mod RowsTaken
 pub mod ImageTaken
 pub mod NoneBad
-pub mod TableShown
 pub mod GivenTaken

@@ -10,7 +10,7 @@ use lib.Seq.{getD-append-seam}
 use Rattle.xcf_walk.specs.Walk.{part}
 use Rattle.xcf_walk.specs.Fields.{word, string}
 use Rattle.xcf_write.specs.Structure.{wordBytes, nameBytes}
-use Rattle.xcf_round_trip.specs.Parts.{Stands}
+use Rattle.xcf_round_trip.proofs.Parts.{Stands}
 use Rattle.xcf_round_trip.proofs.Stands.{stands-front, stands-behind}
 use Rattle.xcf_round_trip.proofs.Steps.{Reads, then, then-here, ends, reads-bytes, reads-must}
 use Rattle.xcf_round_trip.proofs.WordsRead.{reads-word}

@@ -13,7 +13,7 @@ use Rattle.xcf_read.specs.Image.{pointers}
 use Rattle.xcf_write.specs.Structure.{wordBytes, words, when}
 use Rattle.xcf_write.specs.File.{Drawable, drawableSize, drawableBytes, drawablesBytes, placesOf}
 use Rattle.xcf_write.proofs.DrawableLength.{drawable-length}
-use Rattle.xcf_round_trip.specs.Parts.{Stands, Rises}
+use Rattle.xcf_round_trip.proofs.Parts.{Stands, Rises}
 use Rattle.xcf_round_trip.proofs.Steps.{Reads, then, then-here, ends, reads-must}
 use Rattle.xcf_round_trip.proofs.WordsRead.{words-rest, reads-number}
 

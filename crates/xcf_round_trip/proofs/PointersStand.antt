@@ -12,7 +12,7 @@ use Rattle.xcf_write.specs.Structure.{words, levelBytes}
 use Rattle.xcf_write.specs.File.{Drawable, tilesOf, starts, drawableBytes}
 use Rattle.xcf_write.specs.Parts.{Writable}
 use Rattle.xcf_write.proofs.DrawableLength.{tiles-counted, starts-length, levelAt, tilesAt}
-use Rattle.xcf_round_trip.specs.Parts.{Stands, Gives, Rises, readRow}
+use Rattle.xcf_round_trip.proofs.Parts.{Stands, Gives, Rises, readRow}
 use Rattle.xcf_round_trip.proofs.WordsRead.{words-rest}
 use Rattle.xcf_round_trip.proofs.HierarchyRead.{reads-tiles}
 use Rattle.xcf_round_trip.proofs.TilesRise.{tiles-rise}

@@ -19,7 +19,7 @@ use Rattle.xcf_tile.proofs.Cases.{by-cases}
 use Rattle.xcf_usable.specs.Usable.{isLayer, apply, selection, active}
 use Rattle.xcf_write.specs.Structure.{wordBytes, words, when, Property, propertyBytes, listBytes, worded, imageProperties, drawableProperties}
 use Rattle.xcf_write.proofs.Words.{words-length}
-use Rattle.xcf_round_trip.specs.Parts.{Stands, propertiesOf}
+use Rattle.xcf_round_trip.proofs.Parts.{Stands, propertiesOf}
 use Rattle.xcf_round_trip.proofs.Steps.{Reads}
 use Rattle.xcf_round_trip.proofs.WordsRead.{word-value}
 use Rattle.xcf_round_trip.proofs.PropertyList.{putAll, Plain, Taken, AllTaken, closes, goes, reads-list}

@@ -16,7 +16,7 @@ use Rattle.xcf_walk.specs.Fields.{word}
 use Rattle.xcf_walk.specs.Property.{lengthOk, contentOf, payload, isColourMap, content, property, isFloating, lacksMap, allowed, absent, put, propertyTurn, properties}
 use Rattle.xcf_walk.proofs.Cases.{cond-same}
 use Rattle.xcf_write.specs.Structure.{wordBytes, Property, propertyBytes, listBytes}
-use Rattle.xcf_round_trip.specs.Parts.{Stands}
+use Rattle.xcf_round_trip.proofs.Parts.{Stands}
 use Rattle.xcf_round_trip.proofs.Stands.{stands-front, stands-behind}
 use Rattle.xcf_round_trip.proofs.Steps.{Reads, then, then-here, then-length, ends, reads-bytes, reads-must}
 use Rattle.xcf_round_trip.proofs.WordsRead.{reads-word}

@@ -6,13 +6,11 @@ use Prim.Native.Nat.{ℕ, zero, suc, _+_, _-_, _≤_, _<_}
 use mathlib.Core.Path.{_≡_, sym, ap, _∙_}
 use mathlib.Core.List.{List}
 use mathlib.Core.Bool.{true}
-use mathlib.Core.Logic.{_⊎_, ⊎-elim}
 use native.Mathlib.Nat.{add-zero, zero-add}
 use native.Mathlib.Omega.{arith}
 use lib.ListN.{length, getD, replicate}
 use lib.Seq.{take-append-seam}
 use Rattle.xcf_walk.specs.Walk.{part, got}
-use Rattle.xcf_walk.proofs.Cases.{below-or}
 use Rattle.xcf_table.specs.declared.Row.{Row}
 use Rattle.xcf_table.specs.Table.{tableSize, noRows, rowAt, unusedRow, tableOf}
 use Rattle.xcf_read.specs.declared.drawable.Canvas.{Canvas}
@@ -30,7 +28,7 @@ use Rattle.xcf_write.proofs.Accepted.{InputAccepted, accepted}
 use Rattle.xcf_write.proofs.RowsUsed.{used-most, used-kind}
 use Rattle.xcf_write.proofs.FileLaws.{rows-length}
 use Rattle.xcf_round_trip.specs.RoundTrip.{withPlaces, SameName, ReadsBack, RoundTrip}
-use Rattle.xcf_round_trip.specs.Parts.{Stands, sidesSize, readRow, addAll}
+use Rattle.xcf_round_trip.proofs.Parts.{Stands, sidesSize, readRow, addAll}
 use Rattle.xcf_round_trip.proofs.DrawablesFrom.{drawableOf, usedDrawables, drawable-at, drawable-readable, used-end}
 use Rattle.xcf_round_trip.proofs.ImageRead.{headOf, image-read, rowPlace, row-place-some, stands-drawable}
 use Rattle.xcf_round_trip.proofs.DrawableRead.{name-at}
@@ -113,13 +111,9 @@ module _ (c : Canvas) (table names pixels lent : List ℕ) (low : (i : ℕ) → 
       let zero : rowAt table k .kind ≡ 0 = rw e (unused-behind (k - usedRows table) (omega arith)) in
       unused-zero c (length names) table k (all k l) zero
 
-  row-back : (k : ℕ) → k < tableRows
-      → let s = rowAt (reading file lent .table) k in s ≡ withPlaces (rowAt table k) (s .name) (s .list) (s .tiles)
-  row-back k h =
-      ⊎-elim
-      (λ below. row-placed (drawable k) _ (row-read k below))
-      (λ above. rw (table-read, table-unused ds start few k (rw count above) h, row-unused k above h))
-      (below-or k (usedRows table))
+  unused-back : (k : ℕ) → usedRows table ≤ k → k < tableRows
+      → (rowAt (reading file lent .table) k ≡ unusedRow) × (rowAt table k ≡ unusedRow)
+  unused-back k above h = (rw table-read (table-unused ds start few k (rw count above) h), row-unused k above h)
 
   name-back : (k : ℕ) → k < usedRows table → SameName names file (rowAt table k) (rowAt (reading file lent .table) k)
   unfolding readRow
@@ -144,7 +138,8 @@ module _ (c : Canvas) (table names pixels lent : List ℕ) (low : (i : ℕ) → 
   reads-back : ReadsBack c table names pixels file lent
   reads-back = record {
     answer = ap (λ x. x .answer) read ∙ rw (rows-count, count, zero-add);
-    rows = row-back;
+    rows = λ k h. row-placed (drawable k) _ (row-read k h);
+    unused = unused-back;
     named = name-back;
     decoded = row-decoded;
   }

@@ -14,7 +14,7 @@ use Rattle.xcf_read.specs.Drawable.{layerRows, canvasChannelRows}
 use Rattle.xcf_read.specs.Image.{drawables}
 use Rattle.xcf_write.specs.File.{Drawable, drawableSize, drawableBytes, drawablesBytes, placesOf}
 use Rattle.xcf_write.proofs.DrawableLength.{drawable-length}
-use Rattle.xcf_round_trip.specs.Parts.{Stands, Gives, readRow, addAll}
+use Rattle.xcf_round_trip.proofs.Parts.{Stands, Gives, readRow, addAll}
 use Rattle.xcf_round_trip.proofs.Stands.{stands-front, stands-behind}
 use Rattle.xcf_round_trip.proofs.Steps.{reads-gives, gives-reads, then, ends, reads-jump}
 use Rattle.xcf_round_trip.proofs.DrawableRead.{reads-layer, reads-masked, reads-channel}

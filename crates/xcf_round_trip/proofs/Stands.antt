@@ -8,7 +8,7 @@ use lib.ListN.{length, take, drop, length-append}
 use lib.Seq.{take-take, take-length, take-append-seam, drop-append-seam}
 use Rattle.xcf_walk.specs.Walk.{part}
 use Rattle.xcf_walk.proofs.Parts.{part-part}
-use Rattle.xcf_round_trip.specs.Parts.{Stands}
+use Rattle.xcf_round_trip.proofs.Parts.{Stands}
 
 module _ {f : List ℕ} {p : ℕ} (xs ys : List ℕ) (s : Stands f p (xs ++ ys)) where
   pub stands-front : Stands f p xs

@@ -9,7 +9,7 @@ use borrow.Author.Tests.{le-leb}
 use lib.ListN.{length}
 use Rattle.xcf_walk.specs.Walk.{Walk, got, done, bytes, here, fileLength, jump, must, run, _>>=_}
 use Rattle.xcf_walk.proofs.Walks.{run-bind, run-here, run-length}
-use Rattle.xcf_round_trip.specs.Parts.{Stands, Gives}
+use Rattle.xcf_round_trip.proofs.Parts.{Stands, Gives}
 
 -- a walk from the place p on gives the value a and ends at q
 pub record Reads {A : Type 0} (w : Walk A) (f : List ℕ) (p : ℕ) (a : A) (q : ℕ) : Type 0 where

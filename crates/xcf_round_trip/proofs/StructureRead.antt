@@ -20,7 +20,7 @@ use Rattle.xcf_write.specs.Structure.{words, when, nameBytes, listBytes, drawab
 use Rattle.xcf_write.specs.File.{Drawable}
 use Rattle.xcf_write.specs.Parts.{Writable}
 use Rattle.xcf_write.proofs.Words.{words-length}
-use Rattle.xcf_round_trip.specs.Parts.{Stands, Gives, propertiesOf, sidesSize}
+use Rattle.xcf_round_trip.proofs.Parts.{Stands, Gives, propertiesOf, sidesSize}
 use Rattle.xcf_round_trip.proofs.Stands.{stands-front, stands-behind}
 use Rattle.xcf_round_trip.proofs.Steps.{Reads, reads-gives, then, then-here, ends, reads-must}
 use Rattle.xcf_round_trip.proofs.WordsRead.{words-rest, reads-number}

@@ -1,7 +1,7 @@
 -- The table that the reader leaves for drawables that were read back: row k is the k-th drawable's (`table-row`), and the rows
 -- behind them are unused (`table-unused`). And a row that is zero is the unused row.
 -- Assumes nothing.
-use Prim.Native.Nat.{ℕ, zero, suc, _+_, _-_, _*_, _≤_, _<_}
+use Prim.Native.Nat.{ℕ, zero, suc, _+_, _*_, _≤_, _<_}
 use mathlib.Core.Path.{_≡_, refl, sym, ap, _∙_}
 use mathlib.Core.List.{List, [], _∷_, _++_}
 use mathlib.Core.Bool.{true, and-eq-true-iff}
@@ -9,14 +9,14 @@ use native.Mathlib.Nat.{add-zero, zero-add}
 use native.Mathlib.Omega.{arith}
 use borrow.Author.Tests.{eqb-true}
 use lib.Dec.{eqb}
-use lib.ListN.{length, getD, replicate, length-append, length-replicate}
-use lib.Seq.{getD-append-add}
+use lib.ListN.{length, getD, replicate, length-append}
 use Rattle.xcf_table.specs.declared.Row.{Row}
 use Rattle.xcf_table.specs.Table.{rowSize, tableSize, rowNumbers, Rows, noRows, addRow, rowIn, unusedRow, rowAt, tableOf}
-use Rattle.xcf_table.proofs.Rows.{row-added, row-in-front, row-there}
+use Rattle.xcf_table.proofs.Rows.{row-added, row-in-front}
+use Rattle.xcf_table.proofs.Tables.{table-length as rows-table, table-row as rows-row, table-unused as rows-unused}
 use Rattle.xcf_usable.specs.Usable.{tableRows, allZero}
 use Rattle.xcf_write.specs.File.{Drawable, drawableSize}
-use Rattle.xcf_round_trip.specs.Parts.{readRow, addAll}
+use Rattle.xcf_round_trip.proofs.Parts.{readRow, addAll}
 use Rattle.xcf_round_trip.proofs.RowsRead.{placeAt}
 
 -- rows added: their number, and how many numbers they have
@@ -54,49 +54,26 @@ added-row other rows (d ∷ ds) p (suc k) h =
     rw length-append (omega arith) in
     rw e (added-row other (addRow rows (readRow d p)) ds (p + drawableSize d) k (omega arith))
 
--- behind some numbers zeros stand
-no-number : (n i : ℕ) → _≡_ {A = ℕ} (getD (replicate n 0) i 0) 0
-no-number zero i = refl
-no-number (suc n) zero = refl
-no-number (suc n) (suc i) = no-number n i
-
-zero-behind : (xs : List ℕ) (n i : ℕ) → length xs ≤ i → getD (xs ++ replicate n 0) i 0 ≡ 0
-zero-behind xs n i h =
-    let e : i ≡ length xs + (i - length xs) = omega arith in
-    rw e (getD-append-add xs (replicate n 0) (i - length xs) 0 ∙ no-number n (i - length xs))
-
-row-behind : (xs : List ℕ) (n at : ℕ) → length xs ≤ at → rowIn (xs ++ replicate n 0) at ≡ unusedRow
-row-behind xs n at h = simp (zero-behind xs n at h, others)
-  where
-    others : (i : ℕ) → getD (xs ++ replicate n 0) (at + i) 0 ≡ 0
-    others i = zero-behind xs n (at + i) (omega arith)
-
 -- the table of at most 128 drawables' rows
 module _ (ds : List Drawable) (p : ℕ) (few : length ds ≤ tableRows) where
-  abbrev numbers : List ℕ
-  numbers = addAll noRows ds p .numbers
+  abbrev rows : Rows
+  rows = addAll noRows ds p
 
-  numbers-length : length numbers ≡ rowSize * length ds
-  numbers-length = rows-length noRows ds p ∙ zero-add _
+  count : rows .count ≡ length ds
+  count = rows-count noRows ds p ∙ zero-add _
 
-  pub table-length : length (tableOf (addAll noRows ds p)) ≡ tableSize
-  unfolding tableOf
-  table-length = rw (length-append, length-replicate) (omega (arith, numbers-length))
+  size : length (rows .numbers) ≡ rowSize * rows .count
+  size = rows-length noRows ds p ∙ omega (arith, count)
 
-  pub table-row : (other : Drawable) (k : ℕ) → k < length ds
-      → rowAt (tableOf (addAll noRows ds p)) k ≡ readRow (getD ds k other) (placeAt ds p k)
-  unfolding tableOf
+  pub table-length : length (tableOf rows) ≡ tableSize
+  table-length = rows-table rows (omega (arith, count)) size
+
+  pub table-row : (other : Drawable) (k : ℕ) → k < length ds → rowAt (tableOf rows) k ≡ readRow (getD ds k other) (placeAt ds p k)
   table-row other k h =
-      row-there (tableOf (addAll noRows ds p)) k (rw table-length (omega arith))
-      ∙ row-in-front numbers _ (rowSize * k) (omega (arith, numbers-length))
-      ∙ (rw zero-add at (added-row other noRows ds p k h))
+      rows-row rows (omega (arith, count)) size k (omega (arith, count)) ∙ (rw zero-add at (added-row other noRows ds p k h))
 
-  -- behind them all numbers are zero
-  pub table-unused : (k : ℕ) → length ds ≤ k → k < tableRows → rowAt (tableOf (addAll noRows ds p)) k ≡ unusedRow
-  unfolding tableOf
-  table-unused k h l =
-      row-there (tableOf (addAll noRows ds p)) k (rw table-length (omega arith))
-      ∙ row-behind numbers (tableSize - length numbers) (rowSize * k) (omega (arith, numbers-length))
+  pub table-unused : (k : ℕ) → length ds ≤ k → k < tableRows → rowAt (tableOf rows) k ≡ unusedRow
+  table-unused k h l = rows-unused rows (omega (arith, count)) size k (omega (arith, count)) l
 
 -- a row whose numbers are all zero is the unused one
 all-zeros : (ns : List ℕ) → allZero ns ≡ true → ns ≡ replicate (length ns) 0

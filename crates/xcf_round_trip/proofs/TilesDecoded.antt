@@ -21,7 +21,7 @@ use Rattle.xcf_write.specs.File.{Drawable, encodings, tilesOf}
 use Rattle.xcf_write.specs.Parts.{Writable, encodingOf}
 use Rattle.xcf_write.proofs.Lines.{tiled-width, tiled-height, shown-length}
 use Rattle.xcf_write.proofs.EncodingBound.{tiled}
-use Rattle.xcf_round_trip.specs.Parts.{readRow}
+use Rattle.xcf_round_trip.proofs.Parts.{readRow}
 use Rattle.xcf_round_trip.proofs.TilesRise.{writable-drawn}
 use Rattle.xcf_round_trip.proofs.PixelsShown.{pixels-of-tiles}
 use Rattle.xcf_round_trip.proofs.WindowRead.{Pointed, window-begins}

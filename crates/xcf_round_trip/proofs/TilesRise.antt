@@ -15,7 +15,7 @@ use Rattle.xcf_write.specs.File.{Drawable, encodings, tilesOf, joined, starts}
 use Rattle.xcf_write.specs.Parts.{Writable, Drawn, Tiled, encodingOf}
 use Rattle.xcf_write.proofs.Lines.{tiled-width, tiled-height}
 use Rattle.xcf_write.proofs.EncodingBound.{tiled}
-use Rattle.xcf_round_trip.specs.Parts.{Rises}
+use Rattle.xcf_round_trip.proofs.Parts.{Rises}
 
 -- an operation has a byte at least, and so have the encodings of a stream that is not empty and of a tile
 written-some : (s : Segment) → 0 < sizeOf s → 0 < length (written s)

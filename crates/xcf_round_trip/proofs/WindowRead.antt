@@ -22,7 +22,7 @@ use Rattle.xcf_decode.proofs.Cuts.{cut-same}
 use Rattle.xcf_write.specs.Structure.{words}
 use Rattle.xcf_write.specs.File.{joined, starts}
 use Rattle.xcf_write.proofs.Words.{word-length}
-use Rattle.xcf_round_trip.specs.Parts.{Stands, Rises}
+use Rattle.xcf_round_trip.proofs.Parts.{Stands, Rises}
 use Rattle.xcf_round_trip.proofs.Stands.{stands-front, stands-behind}
 use Rattle.xcf_round_trip.proofs.WordsRead.{word-value, words-first, words-rest}
 

@@ -1,13 +1,13 @@
 -- Demand 2's second half: what the writer writes reads back as the same rows, names and pixels, with no tile marked; only the rows'
 -- places differ.
-use Prim.Native.Nat.{ℕ, _<_}
+use Prim.Native.Nat.{ℕ, _≤_, _<_}
 use mathlib.Core.Path.{_≡_}
 use mathlib.Core.List.{List}
 use mathlib.Core.Bool.{true}
 use lib.ListN.{length, getD, take, replicate}
 use Rattle.xcf_walk.specs.Walk.{part}
 use Rattle.xcf_table.specs.declared.Row.{Row}
-use Rattle.xcf_table.specs.Table.{tableSize, rowAt}
+use Rattle.xcf_table.specs.Table.{tableSize, unusedRow, rowAt}
 use Rattle.xcf_read.specs.declared.drawable.Canvas.{Canvas}
 use Rattle.xcf_read.specs.Answer.{reading}
 use Rattle.xcf_decode.specs.Answer.{fits, decoding}
@@ -40,8 +40,8 @@ withPlaces r name list tiles = record {
 abbrev pub SameName : List ℕ → List ℕ → Row → Row → Type 0
 SameName names f r s = part f (s .name) (s .size) ≡ part names (r .name) (r .size)
 
--- the file f reads back: the reader, lent any table of the right length, gives the canvas and the rows; each row is the one lent but
--- for fields 5, 7 and 8; each used row has its name; and the decoder, lent the file and that table, and buffers of the right length
+-- the file f reads back: the reader, lent any table of the right length, gives the canvas and the rows; each used row is the one lent
+-- but for fields 5, 7 and 8, and the others are unused in both tables; each used row has its name; and the decoder, lent the file and that table, and buffers of the right length
 -- whatever they held before, gives its pixels with no mark
 pub record ReadsBack (c : Canvas) (table names pixels f lent : List ℕ) : Type 0 where
   pub answer : reading f lent .answer
@@ -55,8 +55,10 @@ pub record ReadsBack (c : Canvas) (table names pixels f lent : List ℕ) : Type 
         compression = 1;
         rows = usedRows table;
       }
-  pub rows : (k : ℕ) → k < tableRows →
+  pub rows : (k : ℕ) → k < usedRows table →
       let s = rowAt (reading f lent .table) k in s ≡ withPlaces (rowAt table k) (s .name) (s .list) (s .tiles)
+  pub unused : (k : ℕ) → usedRows table ≤ k → k < tableRows
+      → (rowAt (reading f lent .table) k ≡ unusedRow) × (rowAt table k ≡ unusedRow)
   pub named : (k : ℕ) → k < usedRows table → SameName names f (rowAt table k) (rowAt (reading f lent .table) k)
   pub decoded : (k : ℕ) → k < usedRows table → (buffer marks : List ℕ)
       → fits (rowAt table k) (length buffer) (length marks) ≡ true

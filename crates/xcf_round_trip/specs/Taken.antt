@@ -1,5 +1,5 @@
--- The rows that the writer takes are those that a reader could have given, less what document 01 excepts: a table with a reader's rows,
--- but for what the writer excepts, is taken. (The other way round is the round trip: what is taken is read back.)
+-- The rows that the writer takes are those that a reader could have given, less what document 01 excepts: of a table with a reader's
+-- rows, and with what is excepted, no row is bad.
 use Prim.Native.Nat.{ℕ, _+_, _≤_, _<_}
 use mathlib.Core.Path.{_≡_}
 use mathlib.Core.List.{List}

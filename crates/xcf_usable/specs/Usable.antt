@@ -79,7 +79,7 @@ seenAt table k = record {
   row = rowBefore table k;
 }
 
--- row k has a mask: the next row's kind is 2
+-- row k of a table has a mask: the next row's kind is 2
 unfoldable pub masked : List ℕ → ℕ → Bool
 masked table k = ltb k tableRows && isMask (rowAt table (k + 1))
 
@@ -103,11 +103,11 @@ layerOk c k r hasMask =
     && (eqb (r .depth) (depthOf (r .form))
     && (leb (r .mode) 21 && (eqb (r .owner) k && (layerFlagsOk r && (eqb (apply r) 0 || hasMask))))))
 
--- at most 48 layers, all before the channels and the unused rows, one of them active
+-- at most 48 layers, all before the channels and the unused rows, at most one of them active
 unfoldable pub layerFollows : Seen → Row → Bool
 layerFollows s r = ltb (s .layers) 48 && (eqb (s .channels) 0 && (eqb (s .unused) 0 && noSecond (isActiveLayer r) (s .chosen)))
 
--- a mask's or channel's numbers; one of them is active and one the selection
+-- a mask's or channel's numbers; at most one of them is active, and at most one the selection
 unfoldable pub channelOk : Seen → Row → Bool
 channelOk s r =
     eqb (r .depth) 1

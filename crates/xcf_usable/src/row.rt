@@ -1,8 +1,7 @@
 // Whether a row of the table is usable.
 ghost use mathlib.Core.Path.{_≡_};
 ghost use Prim.Native.Nat.{_<_};
-ghost use lib.ListN.{length};
-ghost use Rattle.xcf_table.specs.Table.{tableSize, rowNumbers, rowAt};
+ghost use Rattle.xcf_table.specs.Table.{rowNumbers, rowAt};
 ghost use Rattle.xcf_usable.specs.Usable.{masked, allZero, usableRow};
 use crate::TABLE_ROWS;
 use crate::kind::channel_follows;

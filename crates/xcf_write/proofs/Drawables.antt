@@ -1,14 +1,14 @@
 -- The drawables of a table's rows, from row k on: the first is row k's and the rest are those from the next row on
 -- (`drawables-step`), each is ready where the rows are (`row-ready`), and so writable (`row-writable`), and what a list of all rows' places says of them.
 -- Assumes nothing.
-use Prim.Native.Nat.{ℕ, zero, suc, _+_, _-_, _*_, _≤_, _<_}
-use mathlib.Core.Path.{_≡_, refl, sym, ap, _∙_}
+use Prim.Native.Nat.{ℕ, suc, _+_, _-_, _≤_, _<_}
+use mathlib.Core.Path.{_≡_, sym, ap, _∙_}
 use mathlib.Core.List.{List, [], _∷_}
 use mathlib.Core.Bool.{Bool}
 use native.Mathlib.Nat.{suc-ne-zero}
 use native.Mathlib.Numerals.{add-one}
 use native.Mathlib.Omega.{arith}
-use lib.ListN.{length, getD, take, drop, length-take, length-drop}
+use lib.ListN.{length, getD, take, drop, length-drop}
 use lib.Seq.{drop-drop, drop-cons}
 use Rattle.xcf_walk.specs.Walk.{part}
 use Rattle.xcf_walk.proofs.Parts.{part-length}

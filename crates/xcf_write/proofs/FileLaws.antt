@@ -2,13 +2,13 @@
 -- those of the definition; the file ends where its last drawable does; and the image's structure and the drawables behind it, stored
 -- one after the other, are the file.
 -- Assumes nothing.
-use Prim.Native.Nat.{ℕ, zero, suc, _+_, _-_, _*_, _≤_, _<_}
+use Prim.Native.Nat.{ℕ, zero, suc, _+_, _-_, _≤_, _<_}
 use mathlib.Core.Path.{_≡_, refl, sym, ap, _∙_}
 use mathlib.Core.List.{List, [], _∷_, _++_}
-use mathlib.Core.Bool.{Bool, true, false, cond}
-use native.Mathlib.Nat.{add-zero, zero-add, add-assoc}
+use mathlib.Core.Bool.{Bool, true, false}
+use native.Mathlib.Nat.{add-zero, zero-add}
 use native.Mathlib.Omega.{arith}
-use lib.ListN.{length, getD, take, drop, length-append}
+use lib.ListN.{length, getD, length-append}
 use lib.Seq.{sets, sets-eq, length-sets, take-append-seam}
 use lib.Dec.{eqb}
 use Rattle.xcf_table.specs.Table.{rowAt}
@@ -17,8 +17,7 @@ use Rattle.xcf_encode.proofs.Stores.{put-append}
 use Rattle.xcf_read.specs.declared.drawable.Canvas.{Canvas}
 use Rattle.xcf_read.specs.Answer.{fileLimit}
 use Rattle.xcf_write.specs.Structure.{when}
-use Rattle.xcf_write.specs.File.{Drawable, drawableSize, drawableBytes, drawablesBytes, placesOf, isNewMode, versionOf, imageBytes, imageSize, fileBytes, pixelSize, drawablesFrom}
-use Rattle.xcf_write.specs.Answer.{usedRows, fileOf}
+use Rattle.xcf_write.specs.File.{Drawable, drawableSize, drawablesBytes, placesOf, versionOf, imageBytes, imageSize, fileBytes, pixelSize, drawablesFrom}
 use Rattle.xcf_write.specs.Parts.{Ready, ends, endOf, Placed, kindPlaces, LowPlaces, versionFrom}
 use Rattle.xcf_write.proofs.DrawableLength.{drawable-length}
 use Rattle.xcf_write.proofs.ImageLength.{kind-length, version-old-or-new, image-length}

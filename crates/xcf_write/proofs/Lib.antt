@@ -9,10 +9,10 @@ pub mod TileEncoding
 pub mod EncodingBound
 pub mod TilesMeasured
 pub mod SetsApart
+pub mod DrawableLength
 pub mod TilesStored
 pub mod LevelPut
 pub mod DrawablePut
-pub mod DrawableLength
 pub mod RowsLoop
 pub mod RowsUsed
 pub mod ImageLength

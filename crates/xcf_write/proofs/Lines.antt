@@ -10,6 +10,7 @@ use native.Mathlib.Nat.{mod-lt, zero-add}
 use lib.ListN.{length, getD, length-append, List·getD-append}
 use lib.Seq.{sets, ext-getD, getD-take, getD-drop, getD-append-add}
 use Rattle.xcf_walk.specs.Walk.{part}
+use Rattle.xcf_walk.proofs.Parts.{part-length}
 use Rattle.xcf_table.specs.declared.Row.{Row}
 use Rattle.xcf_tile.specs.Grid.{tileSide, tilesAlong, tileWidth, tileHeight}
 use Rattle.xcf_tile.proofs.Sizes.{small}
@@ -23,7 +24,6 @@ use Rattle.xcf_decode.proofs.Tabulated.{tabulate-length, tabulate-entry}
 use Rattle.xcf_decode.proofs.PutTile.{tile-framed}
 use Rattle.xcf_decode.proofs.PutRoom.{Small, frame-small, frame-room}
 use Rattle.xcf_write.specs.Parts.{lines, LinesFit, Tiled}
-use Rattle.xcf_write.proofs.TakeLines.{part-length}
 
 -- the first of some lines lies in the pixels, and so do the others
 module _ (pixels : List ℕ) (stride line : ℕ) where

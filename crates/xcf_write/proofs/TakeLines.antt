@@ -7,11 +7,12 @@ use mathlib.Core.Path.{_≡_, refl, _∙_}
 use mathlib.Core.List.{List, _++_}
 use native.Mathlib.Omega.{arith}
 use native.Mathlib.Numerals.{sub-one}
-use lib.ListN.{length, take, drop, length-drop}
-use lib.Seq.{sets, sets-eq, length-sets, length-take-le}
+use lib.ListN.{length, take, drop}
+use lib.Seq.{sets, sets-eq, length-sets}
 use Rattle.xcf_walk.specs.Walk.{part}
 use Rattle.xcf_encode.proofs.Stores.{sets-append}
 use Rattle.xcf_decode.proofs.LinesLoop.{line-copied}
+use Rattle.xcf_walk.proofs.Parts.{part-length}
 use Rattle.xcf_write.specs.Parts.{lines, LinesFit}
 
 pub record Taking (pixels : List ℕ) (start stride line n : ℕ) (old tile : List ℕ) (from to rest : ℕ) : Type 0 where
@@ -24,9 +25,6 @@ pub record Taking (pixels : List ℕ) (start stride line n : ℕ) (old tile : Li
 pub taking-start : {pixels : List ℕ} {start stride line n : ℕ} {old : List ℕ} → LinesFit pixels start stride line n old
     → Taking pixels start stride line n old old start 0 n
 taking-start f = record { same = refl; source = f .source; target = omega (arith, f .target); small = f .small; taken = refl }
-
-pub part-length : (l : List ℕ) (at n : ℕ) → at + n ≤ length l → length (part l at n) ≡ n
-part-length l at n h = length-take-le n (drop at l) (simp length-drop (omega arith))
 
 pub line-stored : (tile : List ℕ) (to : ℕ) (pixels : List ℕ) (from line : ℕ) → from + line ≤ length pixels → to + line ≤ length tile
     → (let source = take (from + line - from) (drop from pixels) in

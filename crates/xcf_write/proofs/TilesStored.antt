@@ -2,9 +2,9 @@
 -- have room (`next-room`, `next-tile`) and keep it (`storing-tile`), and with no tile left it names the place behind the tiles
 -- (`storing-behind`) and the output (`storing-over`). What is left to store from here on gives all that was to be stored.
 -- Assumes nothing.
-use Prim.Native.Nat.{ℕ, zero, suc, _+_, _-_, _*_, _≤_, _<_}
+use Prim.Native.Nat.{ℕ, _+_, _-_, _*_, _≤_, _<_}
 use mathlib.Core.Path.{_≡_, refl, ap, _∙_}
-use mathlib.Core.List.{List, [], _∷_, _++_}
+use mathlib.Core.List.{List, [], _++_}
 use native.Mathlib.Omega.{arith}
 use lib.ListN.{length, take, drop, length-append}
 use lib.Seq.{sets}
@@ -17,21 +17,12 @@ use Rattle.xcf_write.specs.File.{encodings, joined, starts}
 use Rattle.xcf_write.specs.Parts.{Space, encodingOf}
 use Rattle.xcf_write.proofs.Words.{word-length, words-length}
 use Rattle.xcf_write.proofs.SetsApart.{stores-next}
+use Rattle.xcf_write.proofs.DrawableLength.{encodings-count, starts-length}
 use Rattle.xcf_write.proofs.EncodingBound.{encodings-next, joined-next, encodings-none, joined-none}
-
-encodings-length : (r : Row) (pixels : List ℕ) (n t : ℕ) → length (encodings n t r pixels) ≡ n
-unfolding encodings
-encodings-length r pixels zero t = refl
-encodings-length r pixels (suc n) t = ap suc (encodings-length r pixels n (t + 1))
-
-starts-length : (xss : List (List ℕ)) (p : ℕ) → length (starts xss p) ≡ length xss
-unfolding starts
-starts-length [] p = refl
-starts-length (xs ∷ xss) p = ap suc (starts-length xss (p + length xs))
 
 -- the pointers to n tiles
 pub pointers-length : (r : Row) (pixels : List ℕ) (n t p : ℕ) → length (words (starts (encodings n t r pixels) p)) ≡ 4 * n
-pointers-length r pixels n t p = rw (words-length, starts-length, encodings-length)
+pointers-length r pixels n t p = rw (words-length, starts-length, encodings-count)
 
 module _ (r : Row) (pixels : List ℕ) where
   -- the encodings from tile t on, and the pointers to them where the first is at p

@@ -2,7 +2,7 @@
 -- not depend on its pointers: lengths come first, places from them.
 use Prim.Native.Nat.{ℕ, zero, suc, _+_, _*_}
 use mathlib.Core.List.{List, [], _∷_, _++_}
-use mathlib.Core.Bool.{Bool, cond, _&&_, _||_}
+use mathlib.Core.Bool.{Bool, cond}
 use lib.ListN.{length, getD, take, drop}
 use lib.Dec.{leb, eqb}
 use Rattle.xcf_walk.specs.Walk.{part}
@@ -13,7 +13,7 @@ use Rattle.xcf_encode.specs.Tile.{encodeTile}
 use Rattle.xcf_read.specs.declared.drawable.Canvas.{Canvas}
 use Rattle.xcf_read.specs.Header.{magic, tags}
 use Rattle.xcf_decode.specs.Pixels.{shown}
-use Rattle.xcf_usable.specs.Usable.{isUnused, isLayer, masked}
+use Rattle.xcf_usable.specs.Usable.{isUnused, masked}
 use Rattle.xcf_write.specs.Structure.{words, when, listBytes, imageProperties, structureBytes, hierarchyBytes, levelBytes}
 
 -- a drawable to be written: its row, whether it has a mask, its name's bytes and its pixels

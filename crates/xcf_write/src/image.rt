@@ -45,7 +45,7 @@ pub(crate) fn image_size(canvas: Canvas, table: &[u32], n: u32) -> usize
     51 + 4 * count_kind(table, n, 1) + 4 * count_kind(table, n, 3)
 }
 
-// The version of the first n rows: 2 if a mode is above 18, else 0.
+// Whether one of the first n rows has a mode above 18, which makes the file's version 2.
 fn new_mode(table: &[u32], n: u32) -> bool
     ensures { λ r. ⌜ cond r 2 0 ≡ versionFrom (now (table .entry)) n 0 ⌝ }
 {

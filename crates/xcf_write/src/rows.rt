@@ -1,6 +1,5 @@
 // The used rows of a table: counted, measured and stored.
 ghost use mathlib.Core.Path.{_≡_};
-ghost use mathlib.Core.Bool.{cond};
 ghost use Prim.Native.Nat.{_+_, _≤_, _<_};
 ghost use lib.ListN.{length};
 ghost use lib.Seq.{sets};
@@ -11,6 +10,7 @@ ghost use Rattle.xcf_write.specs.Answer.{usedRows};
 ghost use Rattle.xcf_write.specs.Parts.{InRange, RowsInRange, RowReady, Ready, ends, endOf, Placed};
 use crate::drawable::measure_drawable;
 use crate::drawable::put_drawable;
+use crate::structure::or_zero;
 use xcf_table::Row;
 use xcf_table::row_at;
 use xcf_usable::TABLE_ROWS;
@@ -98,23 +98,17 @@ pub(crate) fn measure_rows(
     ensures { λ _. ⌜ length (now (tile .exit)) ≡ 16384 ⌝ }
 {
     let mut k: u32 = 0;
-    let mut at: usize = 0;
+    let mut from: usize = 0;
     let mut to = start;
     while k < n {
-        let end = at + pixel_size(row_at(table, k));
+        let end = from + pixel_size(row_at(table, k));
         places[k as usize] = to;
-        to += measure_row(table, k, names, &pixels[at..end], tile, encoded);
-        at = end;
+        to += measure_row(table, k, names, &pixels[from..end], tile, encoded);
+        from = end;
         k += 1;
     }
     places[n as usize] = to;
     to
-}
-
-fn place_when(test: bool, place: usize) -> usize
-    ensures { λ r. ⌜ r ≡ cond test place 0 ⌝ }
-{
-    if test { place } else { 0 }
 }
 
 // Row k's drawable, whose mask, if it has one, begins at its end.
@@ -138,7 +132,7 @@ fn put_row(
     let name = row.name as usize;
     let name_end = name + row.size as usize;
     let has_mask = masked(table, k);
-    let mask = place_when(has_mask, end);
+    let mask = or_zero(has_mask, end);
     put_drawable(
         output,
         to,

@@ -12,7 +12,8 @@ use crate::put::put_words;
 use xcf_table::Row;
 use xcf_walk::property::active_type;
 
-fn size_when(test: bool, n: usize) -> usize
+// n where the test holds, else 0.
+pub(crate) fn or_zero(test: bool, n: usize) -> usize
     ensures { λ r. ⌜ r ≡ cond test n 0 ⌝ }
 {
     if test { n } else { 0 }
@@ -31,10 +32,10 @@ fn name_size(name: &[u8]) -> usize
 fn list_size(row: Row, masked: bool) -> usize
     ensures { λ r. ⌜ (r ≡ length (listBytes (drawableProperties row masked))) × (r ≤ 88) ⌝ }
 {
-    let selection = size_when(row.flags / 4 % 2 == 1, 8);
-    let active = size_when(row.flags / 8 % 2 == 1, 8);
-    let apply = size_when(masked, 12);
-    let layer = size_when(row.kind == 1, 28);
+    let selection = or_zero(row.flags / 4 % 2 == 1, 8);
+    let active = or_zero(row.flags / 8 % 2 == 1, 8);
+    let apply = or_zero(masked, 12);
+    let layer = or_zero(row.kind == 1, 28);
     selection + (active + (24 + (apply + (layer + 8))))
 }
 
@@ -43,7 +44,7 @@ pub(crate) fn structure_size(row: Row, masked: bool, name: &[u8]) -> usize
     requires { ⌜ length (now name) ≤ 1024 ⌝ }
     ensures { λ r. ⌜ (r ≡ length (structureBytes row masked (now (name .entry)) 0 0)) × (r ≤ 1200) ⌝ }
 {
-    let form = size_when(row.kind == 1, 4);
+    let form = or_zero(row.kind == 1, 4);
     let named = name_size(name);
     let list = list_size(row, masked);
     8 + form + (named + (list + (4 + form)))

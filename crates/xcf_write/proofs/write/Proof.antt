@@ -1,5 +1,4 @@
 -- `write` meets its contract: a refusal of the input is the answer, and an accepted input is ready to be written.
-use native.Mathlib.Omega.{arith}
 use borrow.Author.Needs.{needs}
 use Rattle.xcf_write.proofs.RowsUsed.{ready}
 use Rattle.xcf_write.proofs.Accepted.{input-accepted, written-refused, written-fitted}

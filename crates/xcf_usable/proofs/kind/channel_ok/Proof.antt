@@ -15,7 +15,8 @@ is-selection-requires c κs = search needs
 
 returns : tie.Need-returns
 unfolding channelOk
-returns c = cc
+returns c =
+    rw (← c .before .is-selection .ensures, ← c .before .before .before .is-active-channel .ensures, ← c .before .before .before .before .channel-flags-ok .ensures)
 
 pub channel-ok-spec : {M : Type 1} → statement M
 channel-ok-spec =

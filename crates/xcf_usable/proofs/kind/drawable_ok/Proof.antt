@@ -27,7 +27,8 @@ cast-result c = search needs
 
 returns : tie.Need-returns
 unfolding drawableOk
-returns c = cc
+returns c =
+    rw (← c .before .before .before .before .before .side-ok2 .ensures, ← c .before .before .before .before .before .before .side-ok .ensures, ← c .before .before .before .before .before .before .before .before .before .tile-count .ensures)
 
 pub drawable-ok-spec : {M : Type 1} → statement M
 drawable-ok-spec =

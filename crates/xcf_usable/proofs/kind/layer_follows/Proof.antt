@@ -9,7 +9,8 @@ is-active-layer-requires c κs = search needs
 
 returns : tie.Need-returns
 unfolding layerFollows
-returns c = cc
+returns c =
+    rw (← c .before .is-active-layer .ensures)
 
 pub layer-follows-spec : {M : Type 1} → statement M
 layer-follows-spec = tie.close (tie.spec is-active-layer-requires returns)

@@ -15,7 +15,8 @@ layer-flags-ok-requires c κs = search needs
 
 returns : tie.Need-returns
 unfolding layerOk
-returns c = cc
+returns c =
+    rw (← c .layer-flags-ok .ensures, ← c .before .before .before .before .depth-of .ensures, ← c .before .before .before .before .before .before .type-ok .ensures)
 
 pub layer-ok-spec : {M : Type 1} → statement M
 layer-ok-spec =

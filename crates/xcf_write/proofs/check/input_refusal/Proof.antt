@@ -32,7 +32,7 @@ returns-2 c =
       high .before .if2 .taken,
       ← high .side-ok2 .ensures,
       c .before .before .before .if3 .taken,
-      le-leb _ _ (c .before .if4 .taken),
+      le-leb _ 1 (c .before .if4 .taken),
     )
     (c .rows-refusal .ensures)
 
@@ -50,7 +50,7 @@ returns-3 c =
       high .before .if2 .taken,
       ← high .side-ok2 .ensures,
       c .before .before .before .if3 .taken,
-      lt-leb _ _ (c .before .if4 .left),
+      lt-leb _ 1 (c .before .if4 .left),
     )
     (c .answered2 .ensures)
 

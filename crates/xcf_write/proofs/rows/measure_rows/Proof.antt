@@ -1,5 +1,5 @@
 -- `measure_rows` meets its contract: `Measuring` holds at the loop's head, with room for one tile.
-use Prim.Native.Nat.{ℕ, _+_, _-_, _≤_}
+use Prim.Native.Nat.{_+_, _-_, _≤_}
 use mathlib.Core.Path.{_≡_, _∙_}
 use native.Mathlib.Omega.{arith}
 use borrow.Author.Needs.{needs}
@@ -12,11 +12,11 @@ use Rattle.xcf_write.proofs.rows.measure_rows.Statement.{statement}
 use Rattle.xcf_write.proofs.rows.measure_rows.Tie as tie
 
 abbrev Inv-loop : tie.InvT-loop
-Inv-loop table n names pixels start places₀ tile₀ encoded₀ k₀ at₀ to₀ places tile encoded k at to =
-    Measuring table names pixels places₀ n start k at to places × ((length tile ≡ 16384) × (length encoded ≡ 16644))
+Inv-loop table n names pixels start places₀ tile₀ encoded₀ k₀ from₀ to₀ places tile encoded k from to =
+    Measuring table names pixels places₀ n start k from to places × ((length tile ≡ 16384) × (length encoded ≡ 16644))
 
 abbrev μ-loop : tie.MeasureT-loop
-μ-loop table n names pixels start places₀ tile₀ encoded₀ k₀ at₀ to₀ places tile encoded k at to = n - k
+μ-loop table n names pixels start places₀ tile₀ encoded₀ k₀ from₀ to₀ places tile encoded k from to = n - k
 
 -- from a place to the one before it that a need cites
 abbrev sized : tie.After-measure-row Inv-loop μ-loop → tie.After-pixel-size Inv-loop μ-loop
@@ -40,7 +40,7 @@ size-is : (c : tie.After-pixel-size Inv-loop μ-loop)
 size-is c = rw (c .before .row-at .ensures) at (c .pixel-size .ensures .0)
 
 inside : (c : tie.After-pixel-size Inv-loop μ-loop)
-    → head (turn c) .loop .at + c .pixel-size .result ≤ length (begin (turn c) .args .pixels .now)
+    → head (turn c) .loop .from + c .pixel-size .result ≤ length (begin (turn c) .args .pixels .now)
 inside c = omega (arith, size-is c, pixels-inside _ (begin (turn c) .args .names .now) _ _ (head (turn c) .loop .inv .0 .from) (turn c .loop-test .taken))
 
 loop-holds : tie.Need-loop-holds Inv-loop μ-loop

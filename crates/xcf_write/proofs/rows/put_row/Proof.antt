@@ -33,8 +33,8 @@ add-name-end c = search needs
 masked-requires : tie.Need-masked-requires
 masked-requires c κs = search needs
 
-place-when-requires : tie.Need-place-when-requires
-place-when-requires c κs = search needs
+or-zero-requires : tie.Need-or-zero-requires
+or-zero-requires c κs = search needs
 
 sub-put-drawable : tie.Need-sub-put-drawable
 sub-put-drawable c = search needs
@@ -51,7 +51,7 @@ put-drawable-requires c κs =
     let m = mask a in
     let s = begin (row m) in
     rw (row-taken _ _ _ _ (row m .row-at .ensures) (m .masked .ensures))
-    ((row-writable (s .pre .0 .0), s .pre .0 .1 .1), (record { room = omega (arith, s .pre .1); low = omega (arith, s .pre .1) }, a .before .place-when .ensures ∙ ap (λ (e : ℕ). cond (m .masked .result) e 0) (s .pre .1 .0)))
+    ((row-writable (s .pre .0 .0), s .pre .0 .1 .1), (record { room = omega (arith, s .pre .1); low = omega (arith, s .pre .1) }, a .before .or-zero .ensures ∙ ap (λ (e : ℕ). cond (m .masked .result) e 0) (s .pre .1 .0)))
 
 same-length : tie.Need-same-length
 same-length c = search needs
@@ -74,7 +74,7 @@ put-row-spec =
     cast-name-end
     add-name-end
     masked-requires
-    place-when-requires
+    or-zero-requires
     sub-put-drawable
     part-put-drawable-start
     part-put-drawable-end

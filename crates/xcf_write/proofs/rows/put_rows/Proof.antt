@@ -1,5 +1,5 @@
 -- `put_rows` meets its contract: `Putting` holds at the loop's head, with room for one tile.
-use Prim.Native.Nat.{ℕ, _+_, _-_, _≤_}
+use Prim.Native.Nat.{_+_, _-_, _≤_}
 use mathlib.Core.Path.{_≡_}
 use native.Mathlib.Omega.{arith}
 use borrow.Author.Needs.{needs}

@@ -10,26 +10,26 @@ use Rattle.xcf_write.proofs.structure.list_size.Statement.{statement}
 use Rattle.xcf_write.proofs.structure.list_size.Tie as tie
 
 -- the sum
-abbrev total : tie.After-size-when4 → ℕ
-total c = c .before .before .before .before .before .size-when .result + (c .before .before .before .size-when2 .result + (24 + (c .before .before .size-when3 .result + (c .size-when4 .result + 8))))
+abbrev total : tie.After-or-zero4 → ℕ
+total c = c .before .before .before .before .before .or-zero .result + (c .before .before .before .or-zero2 .result + (24 + (c .before .before .or-zero3 .result + (c .or-zero4 .result + 8))))
 
-exact : (c : tie.After-size-when4) → total c ≡ length (listBytes (drawableProperties (c .before .before .before .before .before .before .before .args .row) (c .before .before .before .before .before .before .before .args .masked)))
+exact : (c : tie.After-or-zero4) → total c ≡ length (listBytes (drawableProperties (c .before .before .before .before .before .before .before .args .row) (c .before .before .before .before .before .before .before .args .masked)))
 exact c = omega (arith, list-length (c .before .before .before .before .before .before .before .args .row) (c .before .before .before .before .before .before .before .args .masked))
 
-small : (c : tie.After-size-when4) → total c ≤ 88
+small : (c : tie.After-or-zero4) → total c ≤ 88
 small c = rw exact (list-bound _ _)
 
-size-when-requires : tie.Need-size-when-requires
-size-when-requires c κs = search needs
+or-zero-requires : tie.Need-or-zero-requires
+or-zero-requires c κs = search needs
 
-size-when-requires-2 : tie.Need-size-when-requires-2
-size-when-requires-2 c κs = search needs
+or-zero-requires-2 : tie.Need-or-zero-requires-2
+or-zero-requires-2 c κs = search needs
 
-size-when-requires-3 : tie.Need-size-when-requires-3
-size-when-requires-3 c κs = search needs
+or-zero-requires-3 : tie.Need-or-zero-requires-3
+or-zero-requires-3 c κs = search needs
 
-size-when-requires-4 : tie.Need-size-when-requires-4
-size-when-requires-4 c κs = search needs
+or-zero-requires-4 : tie.Need-or-zero-requires-4
+or-zero-requires-4 c κs = search needs
 
 add-result : tie.Need-add-result
 add-result c = omega (arith, small c)
@@ -53,10 +53,10 @@ pub list-size-spec : {M : Type 1} → statement M
 list-size-spec =
     tie.close
     (tie.spec
-    size-when-requires
-    size-when-requires-2
-    size-when-requires-3
-    size-when-requires-4
+    or-zero-requires
+    or-zero-requires-2
+    or-zero-requires-3
+    or-zero-requires-4
     add-result
     add-result-2
     add-result-3

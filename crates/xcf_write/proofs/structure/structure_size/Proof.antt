@@ -11,7 +11,7 @@ use Rattle.xcf_write.proofs.structure.structure_size.Tie as tie
 
 -- the sum
 abbrev total : tie.After-list-size → ℕ
-total c = 8 + c .before .before .size-when .result + (c .before .name-size .result + (c .list-size .result + (4 + c .before .before .size-when .result)))
+total c = 8 + c .before .before .or-zero .result + (c .before .name-size .result + (c .list-size .result + (4 + c .before .before .or-zero .result)))
 
 exact : (c : tie.After-list-size) → total c ≡ length (structureBytes (c .before .before .before .before .before .args .row) (c .before .before .before .before .before .args .masked) (c .before .before .before .before .before .args .name .now) 0 0)
 exact c = omega (arith, structure-size (c .before .before .before .before .before .args .row) (c .before .before .before .before .before .args .masked) (c .before .before .before .before .before .args .name .now) 0 0)
@@ -19,8 +19,8 @@ exact c = omega (arith, structure-size (c .before .before .before .before .befor
 small : (c : tie.After-list-size) → total c ≤ 1200
 small c = rw exact (structure-bound (c .before .before .before .before .before .args .row) (c .before .before .before .before .before .args .masked) (c .before .before .before .before .before .args .name .now) 0 0 (c .before .before .before .before .before .pre))
 
-size-when-requires : tie.Need-size-when-requires
-size-when-requires c κs = search needs
+or-zero-requires : tie.Need-or-zero-requires
+or-zero-requires c κs = search needs
 
 name-size-requires : tie.Need-name-size-requires
 name-size-requires c κs = search needs
@@ -50,7 +50,7 @@ pub structure-size-spec : {M : Type 1} → statement M
 structure-size-spec =
     tie.close
     (tie.spec
-    size-when-requires
+    or-zero-requires
     name-size-requires
     list-size-requires
     add-result

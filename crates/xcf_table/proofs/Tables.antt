@@ -7,9 +7,8 @@ use mathlib.Core.List.{List, _++_}
 use native.Mathlib.Omega.{arith}
 use lib.ListN.{length, getD, replicate, length-append, length-replicate}
 use lib.Seq.{getD-append-add}
 use Rattle.xcf_table.specs.Table.{rowSize, tableSize, rowIn, unusedRow, rowAt, Rows, tableOf}
 use Rattle.xcf_table.proofs.Rows.{row-in-front, row-there}
-use Rattle.xcf_usable.specs.Usable.{tableRows}
 
 -- behind some numbers zeros stand
 no-number : (n i : ℕ) → _≡_ {A = ℕ} (getD (replicate n 0) i 0) 0
@@ -28,8 +27,8 @@ row-behind xs n at h = simp (zero-behind xs n at h, others)
     others : (i : ℕ) → getD (xs ++ replicate n 0) (at + i) 0 ≡ 0
     others i = zero-behind xs n (at + i) (omega arith)
 
-module _ (rows : Rows) (few : rows .count ≤ tableRows) (size : length (rows .numbers) ≡ rowSize * rows .count) where
-  table-length : length (tableOf rows) ≡ tableSize
+module _ (rows : Rows) (few : rows .count ≤ 128) (size : length (rows .numbers) ≡ rowSize * rows .count) where
+  pub table-length : length (tableOf rows) ≡ tableSize
   unfolding tableOf
   table-length = simp (length-append, length-replicate) (omega arith)
 
@@ -38,7 +37,7 @@ module _ (rows : Rows) (few : rows .count ≤ tableRows) (size : length (rows .n
   table-row k h =
       row-there (tableOf rows) k (omega (arith, table-length)) ∙ row-in-front (rows .numbers) _ (rowSize * k) (omega arith)
 
-  pub table-unused : (k : ℕ) → rows .count ≤ k → k < tableRows → rowAt (tableOf rows) k ≡ unusedRow
+  pub table-unused : (k : ℕ) → rows .count ≤ k → k < 128 → rowAt (tableOf rows) k ≡ unusedRow
   unfolding tableOf
   table-unused k h l =
       row-there (tableOf rows) k (omega (arith, table-length))

@@ -1,11 +1,10 @@
 -- What the steps of the round trip's proof say of a drawable in a file.
-use Prim.Native.Nat.{ℕ, zero, suc, _+_, _*_, _≤_, _<_}
+use Prim.Native.Nat.{ℕ, _+_, _≤_, _<_}
 use mathlib.Core.Path.{_≡_}
 use mathlib.Core.List.{List, [], _∷_}
 use mathlib.Core.Bool.{Bool, cond}
 use lib.ListN.{length}
-use lib.Dec.{eqb}
-use Rattle.xcf_walk.specs.Walk.{Walk, Outcome, got, run, part}
+use Rattle.xcf_walk.specs.Walk.{Walk, got, run, part}
 use Rattle.xcf_walk.specs.declared.property.Properties.{Properties}
 use Rattle.xcf_table.specs.declared.Row.{Row}
 use Rattle.xcf_table.specs.Table.{Rows, addRow}
