@@ -25,7 +25,7 @@
  *   15  the file is longer than 1,073,741,824 bytes
  *   16  a layer is a floating selection
  *   17  a row given to the writer is unusable, as said at xcf_write
- *   18  what is written would exceed the lent output, or a file 1,073,741,824 bytes
+ *   18  what is written would exceed the lent output, or a written file would exceed 1,073,741,824 bytes
  */
 #ifndef XCF_H
 #define XCF_H
@@ -122,9 +122,9 @@ typedef struct {
  * beyond it is unchanged. Read back, the file gives the canvas, compression 1, version 2 if a mode is 19 to 21 and else 0,
  * the same names and pixels, and the same rows but for their numbers 5, 7 and 8.
  * A row is usable if xcf_read could have given it, but for those three numbers, and these hold: 6 is at most 1,024, and 5
- * plus 6 at most the length of names; a mode is at most 21; a layer's type is 0 to 3, half of it, rounded down, the base; no
- * group flag; apply mask only where the next row is a mask; selection on at most one mask or channel, active on at most one
- * layer and one mask or channel (a second is the bad row).
+ * plus 6 at most the length of names; 7 and 8 are 0; a mode is at most 21; a layer's type is 0 to 3, half of it, rounded
+ * down, the base; no group flag; apply mask only where the next row is a mask; selection on at most one mask or channel,
+ * active on at most one layer and one mask or channel (a second is the bad row).
  * Layers, each with its mask behind it, come first, then channels, then unused rows. No rows at all make a file too.
  * Refused are, in this order: 11 a table of other than 2,048 numbers; 4; 5; 17 at the lowest unusable row; 11 pixels of the
  * wrong length; 18. */

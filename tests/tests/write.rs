@@ -74,19 +74,22 @@ fn answer_to_reading(case: &TableCase) -> ReadAnswer {
     }
 }
 
-/// Asserts that the names' bytes are the same, and all fields but the three
-/// that are places in the file.
+/// Asserts that the names' bytes are the same, and all fields of used rows but
+/// the three that are places in the file; unused rows are zero.
 fn assert_same_rows(case: &TableCase, file: &[u8], table: &[u32]) {
-    let (rows, _) = table.as_chunks();
-    for (found, written) in rows.iter().zip(case.rows()) {
-        let found: Row = *found;
+    let rows: &[Row] = table.as_chunks().0;
+    let (used, unused) = rows.split_at(case.used());
+    for (found, written) in used.iter().zip(case.rows()) {
         let name = &file[found[5] as usize..][..found[6] as usize];
         assert_eq!(name, case.name(written), "{}", case.summary());
         let mut expected = *written;
         for place in [5, 7, 8] {
             expected[place] = found[place];
         }
-        assert_eq!(found, expected, "{}", case.summary());
+        assert_eq!(*found, expected, "{}", case.summary());
+    }
+    for found in unused {
+        assert_eq!(*found, [0; 16], "{}", case.summary());
     }
 }
 

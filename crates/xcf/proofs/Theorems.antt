@@ -26,10 +26,11 @@ use Rattle.xcf_decode.proofs.Isolated.{isolated}
 use Rattle.xcf_write.proofs.WriterNumbers.{writer-listed}
 use Rattle.xcf_round_trip.proofs.RoundTrip.{round-trip}
 use Rattle.xcf_round_trip.proofs.GivenTaken.{given-is-taken}
+use Rattle.xcf_round_trip.proofs.TakenExcepted.{taken-is-excepted}
 use Rattle.xcf.proofs.ExampleRead.{example-read}
 use Rattle.xcf.proofs.ExampleWritten.{example-written}
 use Rattle.xcf.proofs.ExampleDamaged.{example-damaged}
-use Rattle.xcf.specs.Statements.{ExamplesHold, PassedBytesDecide, StructureBytesDecide, RefusalsAreListed, AcceptedWithoutFault, ExampleFileIsRead, WrittenReadsBack, GivenRowsAreTaken, ExampleFileIsWritten, WriterRefusalsAreListed, DamageIsIsolated, ExampleIsDamaged, AcceptedRowsDecode, PixelsAreTheirTiles, EachPixelHasOneTile, TilesAreShown, DecoderRefusalsAreListed, CountIsTheDecoders, MarksAreListed, ConsumedBytesDecide, ConsumedBytesDecideTheCall, PixelsAreStreams, PixelsAreWhole, MarkedPixelsAreZero, EncodedStreamBounded, StreamReadsBack, TileReadsBack, EncodedTileFits}
+use Rattle.xcf.specs.Statements.{ExamplesHold, PassedBytesDecide, StructureBytesDecide, RefusalsAreListed, AcceptedWithoutFault, ExampleFileIsRead, WrittenReadsBack, GivenRowsAreTaken, TakenRowsAreExcepted, ExampleFileIsWritten, WriterRefusalsAreListed, DamageIsIsolated, ExampleIsDamaged, AcceptedRowsDecode, PixelsAreTheirTiles, EachPixelHasOneTile, TilesAreShown, DecoderRefusalsAreListed, CountIsTheDecoders, MarksAreListed, ConsumedBytesDecide, ConsumedBytesDecideTheCall, PixelsAreStreams, PixelsAreWhole, MarkedPixelsAreZero, EncodedStreamBounded, StreamReadsBack, TileReadsBack, EncodedTileFits}
 
 pub examples-hold : ExamplesHold
 unfolding headOf headAt operationOf operationAt streamFrom streamWithin streamAt streamsAt pixel interleave encodedTile tileIn tileOf leading equalBytes copiedBytes firstSegment segmentsWithin segments written writtenAll encodeStream
@@ -56,6 +57,9 @@ written-reads-back = round-trip
 
 pub given-rows-are-taken : GivenRowsAreTaken
 given-rows-are-taken = given-is-taken
+
+pub taken-rows-are-excepted : TakenRowsAreExcepted
+taken-rows-are-excepted = taken-is-excepted
 
 pub example-file-is-written : ExampleFileIsWritten
 example-file-is-written = example-written

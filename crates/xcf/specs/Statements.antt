@@ -23,7 +23,7 @@ use Rattle.xcf_decode.specs.Isolation.{rowOf, Isolation}
 use Rattle.xcf_read.specs.declared.drawable.Canvas.{Canvas}
 use Rattle.xcf_write.specs.Answer.{writing, writerNumbers}
 use Rattle.xcf_round_trip.specs.RoundTrip.{RoundTrip}
-use Rattle.xcf_round_trip.specs.Taken.{GivenIsTaken}
+use Rattle.xcf_round_trip.specs.Taken.{GivenIsTaken, TakenIsExcepted}
 use Rattle.xcf.specs.DamagedExample.{DamagedExample}
 use Rattle.xcf.specs.ExampleFile.{exampleFile, exampleRow, exampleTable}
 use Rattle.xcf.specs.Examples.{table, All}
@@ -75,6 +75,10 @@ WrittenReadsBack = RoundTrip
 -- And no row that a reader gave is bad for the writer, but for what document 01 excepts; in full in `xcf_round_trip/specs/Taken.antt`.
 abbrev pub GivenRowsAreTaken : Type 0
 GivenRowsAreTaken = GivenIsTaken
+
+-- The other way round, where no row is bad, all that document 01 excepts holds of them.
+abbrev pub TakenRowsAreExcepted : Type 0
+TakenRowsAreExcepted = TakenIsExcepted
 
 -- The example file is written byte for byte, and the output beyond it is unchanged.
 abbrev pub ExampleFileIsWritten : Type 0

@@ -32,3 +32,4 @@ pub mod RowsTaken
 pub mod ImageTaken
 pub mod NoneBad
 pub mod GivenTaken
+pub mod TakenExcepted

@@ -1,10 +1,11 @@
 -- The rows that the writer takes are those that a reader could have given, less what document 01 excepts: of a table with a reader's
--- rows, and with what is excepted, no row is bad.
+-- rows, and with what is excepted, no row is bad; and where no row is bad, what is excepted holds.
 use Prim.Native.Nat.{ℕ, _+_, _≤_, _<_}
 use mathlib.Core.Path.{_≡_}
 use mathlib.Core.List.{List}
 use Rattle.xcf_table.specs.declared.Row.{Row}
 use Rattle.xcf_table.specs.Table.{rowAt}
+use Rattle.xcf_read.specs.declared.drawable.Canvas.{Canvas}
 use Rattle.xcf_read.specs.Answer.{reading}
 use Rattle.xcf_usable.specs.Usable.{tableRows, before, isActiveLayer, isActiveChannel, isSelection, badRow}
 use Rattle.xcf_round_trip.specs.RoundTrip.{withPlaces}
@@ -37,3 +38,9 @@ GivenIsTaken =
     → ((k : ℕ) → k < tableRows → rowAt table k .kind ≡ 0 → rowAt table k .name ≡ 0)
     → RowsExcepted table
     → badRow (record { width = x .answer .width; height = x .answer .height; base = x .answer .base }) names table ≡ tableRows
+
+-- and where no row is bad, all that is asked holds
+abbrev pub TakenIsExcepted : Type 0
+TakenIsExcepted =
+    (c : Canvas) (table : List ℕ) (names : ℕ) → badRow c names table ≡ tableRows
+    → ((k : ℕ) → k < tableRows → RowExcepted names (rowAt table k)) × RowsExcepted table

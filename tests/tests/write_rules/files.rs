@@ -24,7 +24,8 @@ fn no_rows() {
         ]);
         let call = Call::new([16_384, 1], base, &[]);
         assert_eq!(call.file(), file);
-        // Names may be lent for no one, and none for no one.
+        // Without rows no name is used: the call above lends five bytes of
+        // names, this one none, and the file is the same.
         assert_eq!(call.named(b"").file(), file);
     }
 }

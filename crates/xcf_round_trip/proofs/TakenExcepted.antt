@@ -1,0 +1,126 @@
+-- Where no row is bad, the table is as the writer excepts (`taken-is-excepted`): each row by the facts of its kind (`use-excepted`),
+-- and all of them because no row that is active or the selection comes behind another (`row-alone`).
+-- Assumes nothing.
+use Prim.Native.Nat.{ℕ, _≤_, _<_}
+use mathlib.Core.Path.{_≡_, refl}
+use mathlib.Core.List.{List, [], _∷_}
+use mathlib.Core.Bool.{Bool, true, false}
+use native.Mathlib.Omega.{arith}
+use borrow.Author.Tests.{eq-eqb, ne-eqb, eqb-true}
+use lib.Dec.{ltb, eqb}
+use Rattle.xcf_table.specs.declared.Row.{Row}
+use Rattle.xcf_table.specs.Table.{unusedRow, rowAt}
+use Rattle.xcf_read.specs.declared.drawable.Canvas.{Canvas}
+use Rattle.xcf_usable.specs.declared.seen.Seen.{Seen}
+use Rattle.xcf_usable.specs.Usable.{tableRows, isChannel, isActiveLayer, isActiveChannel, isSelection, channelFlagsOk, before, seenAt, masked, noSecond, drawableOk, layerOk, layerFollows, channelOk, maskFollows, channelFollows, usableRow, usable}
+use Rattle.xcf_usable.proofs.Each.{each}
+use Rattle.xcf_usable.proofs.Counts.{few-pass}
+use Rattle.xcf_usable.proofs.AllUsable.{all-usable}
+use Rattle.xcf_usable.proofs.RowFacts.{DrawableFacts, Use, unused, layer, mask, channel, row-use}
+use Rattle.xcf_round_trip.specs.Taken.{RowExcepted, TakenIsExcepted}
+use Rattle.xcf_round_trip.proofs.TableRead.{zero-row}
+use Rattle.xcf_round_trip.proofs.UseTaken.{NoSeconds}
+
+-- a row with its facts
+drawable-excepted : {names : ℕ} {r : Row} → DrawableFacts names r → r .mode ≤ 21 → r .form ≤ 3 → r .flags < 16 → RowExcepted names r
+drawable-excepted d m f g = record {
+  short = d .short;
+  named = d .named;
+  list = d .list;
+  tiles = d .tiles;
+  mode = m;
+  form = f;
+  ungrouped = g;
+}
+
+zero-excepted : (names : ℕ) → RowExcepted names unusedRow
+zero-excepted names = record {
+  short = omega arith;
+  named = omega arith;
+  list = refl;
+  tiles = refl;
+  mode = omega arith;
+  form = omega arith;
+  ungrouped = omega arith;
+}
+
+module _ (c : Canvas) (names k : ℕ) (s : Seen) (r : Row) (hasMask : Bool) where
+  use-excepted : Use c names k s r hasMask → RowExcepted names r
+  use-excepted (unused e z) = rw (zero-row r z) (zero-excepted names)
+  use-excepted (layer d l b) = drawable-excepted d (l .mode) (l .form) (omega (arith, l .flags))
+  use-excepted (mask d ch m) =
+      drawable-excepted d (omega (arith, ch .mode)) (omega (arith, ch .form)) (omega (arith, ch .flags))
+  use-excepted (channel d ch v b) =
+      drawable-excepted d (omega (arith, ch .mode)) (omega (arith, ch .form)) (omega (arith, ch .flags))
+
+  layer-alone : r .kind ≡ 1 → layerFollows s r ≡ true → NoSeconds s r
+  unfolding layerFollows
+  layer-alone one e =
+      let t = each (ltb (s .layers) 48 ∷ eqb (s .channels) 0 ∷ eqb (s .unused) 0 ∷ noSecond (isActiveLayer r) (s .chosen) ∷ []) e in
+      record { chosen = t 3; active = rw (eq-eqb _ _ one); selection = rw (eq-eqb _ _ one) }
+
+  channel-alone : eqb (r .kind) 1 ≡ false → channelOk s r ≡ true → NoSeconds s r
+  unfolding channelOk
+  channel-alone other e =
+      let t =
+      each
+      (eqb (r .depth) 1 ∷ eqb (r .form) 2 ∷ eqb (r .mode) 0 ∷ channelFlagsOk r ∷ noSecond (isActiveChannel r) (s .active)
+      ∷ noSecond (isSelection r) (s .selections) ∷ [])
+      e in
+      record { chosen = rw other; active = t 4; selection = t 5 }
+
+  row-alone : Use c names k s r hasMask → usableRow c names k s r hasMask ≡ true → NoSeconds s r
+  unfolding usableRow
+  row-alone (unused _ z) e = rw (zero-row r z) (record { chosen = refl; active = refl; selection = refl })
+  row-alone (layer d l b) e =
+      layer-alone (l .kind)
+      (each
+      (drawableOk names r ∷ layerOk c k r hasMask ∷ layerFollows s r ∷ [])
+      (rw (ne-eqb (r .kind) 0 (λ z. omega (arith, l .kind)), eq-eqb (r .kind) 1 (l .kind)) at e)
+      2)
+  row-alone (mask d ch m) e =
+      let other = ne-eqb (r .kind) 1 (λ z. omega (arith, m .kind)) in
+      channel-alone other
+      (each
+      (drawableOk names r ∷ channelOk s r ∷ maskFollows k s r ∷ [])
+      (rw (ne-eqb (r .kind) 0 (λ z. omega (arith, m .kind)), other, eq-eqb (r .kind) 2 (m .kind)) at e)
+      1)
+  row-alone (channel d ch v b) e =
+      let other = ne-eqb (r .kind) 1 (λ z. omega (arith, v .kind)) in
+      channel-alone other
+      (each
+      (isChannel r ∷ drawableOk names r ∷ channelOk s r ∷ channelFollows c k s r ∷ [])
+      (rw (ne-eqb (r .kind) 0 (λ z. omega (arith, v .kind)), other, ne-eqb (r .kind) 2 (λ z. omega (arith, v .kind))) at e)
+      2)
+
+-- a row that is no second one, and passes, has none before it
+none-before : (n : ℕ) {t : Bool} → noSecond t n ≡ true → t ≡ true → n < 1
+none-before n alone e = omega (arith, eqb-true n 0 (rw e at alone))
+
+module _ (c : Canvas) (names : ℕ) (table : List ℕ) (k : ℕ) (ok : usable c names table k ≡ true) where
+  alone : NoSeconds (seenAt table k) (rowAt table k)
+  unfolding usable
+  alone = row-alone c names k (seenAt table k) (rowAt table k) (masked table k) (row-use c names table k ok) ok
+
+  chosen-alone : isActiveLayer (rowAt table k) ≡ true → before isActiveLayer table k < 1
+  unfolding seenAt
+  chosen-alone = none-before (before isActiveLayer table k) (alone .chosen)
+
+  active-alone : isActiveChannel (rowAt table k) ≡ true → before isActiveChannel table k < 1
+  unfolding seenAt
+  active-alone = none-before (before isActiveChannel table k) (alone .active)
+
+  selection-alone : isSelection (rowAt table k) ≡ true → before isSelection table k < 1
+  unfolding seenAt
+  selection-alone = none-before (before isSelection table k) (alone .selection)
+
+pub taken-is-excepted : TakenIsExcepted
+taken-is-excepted c table names none =
+    let ok = all-usable c names table none in (
+      λ k h. use-excepted c names k (seenAt table k) (rowAt table k) (masked table k) (row-use c names table k (ok k h)),
+      record {
+        selection = few-pass isSelection table 1 tableRows (λ k h. selection-alone c names table k (ok k h));
+        layer = few-pass isActiveLayer table 1 tableRows (λ k h. chosen-alone c names table k (ok k h));
+        channel = few-pass isActiveChannel table 1 tableRows (λ k h. active-alone c names table k (ok k h));
+      },
+    )
