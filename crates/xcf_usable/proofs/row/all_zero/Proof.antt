@@ -29,7 +29,7 @@ returns : tie.Need-returns Inv-loop μ-loop
 returns c =
     let numbers = c .before .before .before .before .args .numbers .now in
     let l = c .before .before .before .loop in
-    sym (rw (ne-eqb _ _ (c .if1 .taken)) at (zero-head numbers (l .i) (c .before .before .loop-test .taken))) ∙ l .inv .1
+    sym (rw (ne-eqb _ 0 (c .if1 .taken)) at (zero-head numbers (l .i) (c .before .before .loop-test .taken))) ∙ l .inv .1
 
 add-i : tie.Need-add-i Inv-loop μ-loop
 add-i c = search needs
@@ -41,7 +41,7 @@ loop-again : tie.Need-loop-again Inv-loop μ-loop
 loop-again c =
     let numbers = c .before .before .before .before .args .numbers .now in
     let l = c .before .before .before .loop in
-    (omega arith, sym (rw (eq-eqb _ _ (c .if1 .left)) at (zero-head numbers (l .i) (c .before .before .loop-test .taken))) ∙ l .inv .1)
+    (omega arith, sym (rw (eq-eqb _ 0 (c .if1 .left)) at (zero-head numbers (l .i) (c .before .before .loop-test .taken))) ∙ l .inv .1)
 
 returns-2 : tie.Need-returns-2 Inv-loop μ-loop
 unfolding allZero
