@@ -1,5 +1,5 @@
-/* XCF files, read and written; their drawables, decoded; XCF tiles, decoded and encoded. Every function ends, touches only
- * what it is lent, and answers by value.
+/* XCF files, read, listed and written; their drawables, decoded; XCF tiles, decoded and encoded. Every function ends, touches
+ * only what it is lent, and answers by value.
  *
  * A pointer is never NULL, also where its length is 0; a buffer that is written overlaps no other. Nothing else is asked of
  * a caller: any bytes and any numbers may be lent.
@@ -36,6 +36,16 @@
 #ifdef __cplusplus
 extern "C" {
 #endif
+
+/* Longer files are refused. */
+#define XCF_FILE_LIMIT 1073741824
+/* Numbers in a row, and in a table of 128 rows. */
+#define XCF_ROW_LENGTH 16
+#define XCF_TABLE_LENGTH 2048
+/* The side of a tile; those in the last column and line may be smaller. */
+#define XCF_TILE_SIDE 64
+/* Bytes that hold any listing. */
+#define XCF_TEXT_LENGTH 65536
 
 /* mark is 0 for a good tile, 20 where the window ends too soon, 21 where an operation runs over the end of its stream. */
 typedef struct {
@@ -86,6 +96,22 @@ typedef struct {
  * complement (a mask has its layer's, a channel 0); 14 mode (0 for a mask or channel); 15 the owning layer's row for a mask,
  * else its own. */
 xcf_read_answer xcf_read(const uint8_t *file, size_t file_length, uint32_t *table, size_t table_length);
+
+/* number and place are those that refuse the file, as in xcf_read_answer; marked is how many tiles of all rows are marked, and
+ * length how many bytes the listing has. */
+typedef struct {
+    uint64_t number;
+    uint64_t place;
+    uint64_t marked;
+    uint64_t length;
+} xcf_list_answer;
+
+/* Puts the listing of a file at the start of a text of at least 65,536 bytes, and reads the file into the table as xcf_read
+ * does. The listing is a line for the canvas and one for each row with its number, its kind, its numbers 1 to 15 and how many
+ * of its tiles are marked; or, of a refused file, its number and place alone: `refused 13 at 133`. The text beyond it is
+ * unchanged. A shorter text is an 11 with length 0, and it and the table stay as lent. */
+xcf_list_answer xcf_list(const uint8_t *file, size_t file_length, uint32_t *table, size_t table_length, uint8_t *text,
+                         size_t text_length);
 
 /* marked is how many tiles have a mark other than 0. */
 typedef struct {

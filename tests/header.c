@@ -1,5 +1,5 @@
 /* The header as a C program sees it: document 01's tile of depth 2 is decoded, what was encoded decodes to itself, and
- * document 01's whole file is read, its channel decoded, and the file written. */
+ * document 01's whole file is read and listed, its channel decoded, and the file written. */
 #include "xcf.h"
 
 #include <stddef.h>
@@ -13,6 +13,7 @@ _Static_assert(sizeof(xcf_decode_answer) == 24, "three numbers of 64 bits");
 _Static_assert(offsetof(xcf_decode_answer, number) == 0, "the number comes first");
 _Static_assert(offsetof(xcf_decode_answer, place) == 8, "the place comes second");
 _Static_assert(offsetof(xcf_decode_answer, marked) == 16, "the count comes last");
+_Static_assert(sizeof(xcf_list_answer) == 32, "four numbers of 64 bits");
 _Static_assert(sizeof(xcf_write_answer) == 24, "three numbers of 64 bits");
 _Static_assert(offsetof(xcf_write_answer, number) == 0, "the number comes first");
 _Static_assert(offsetof(xcf_write_answer, place) == 8, "the place comes second");
@@ -82,6 +83,34 @@ static int reading_fails(void) {
     return 0;
 }
 
+static int lists(size_t file_length, uint64_t number, uint64_t place, uint64_t marked, const char *listing) {
+    static uint32_t table[XCF_TABLE_LENGTH];
+    static uint8_t text[XCF_TEXT_LENGTH];
+    memset(text, 0xaa, sizeof text);
+    xcf_list_answer l = xcf_list(file, file_length, table, XCF_TABLE_LENGTH, text, sizeof text);
+    return l.number == number && l.place == place && l.marked == marked && l.length == strlen(listing) &&
+           memcmp(text, listing, l.length) == 0 && text[l.length] == 0xaa;
+}
+
+static int listing_fails(void) {
+    const char canvas[] = "canvas 1 1 base 1 version 0 compression 1 rows 1\n";
+    const char row[] = "0 channel 1 1 1 2 67 1 69 133 1 255 1 0 0 0 0 bad";
+    char good[200], marked[200];
+    snprintf(good, sizeof good, "%s%s 0\n", canvas, row);
+    snprintf(marked, sizeof marked, "%s%s 1\n", canvas, row);
+    if (!lists(sizeof file, 0, 0, 0, good) || !lists(sizeof file - 1, 0, 0, 1, marked))
+        return fails("the listing of an accepted file");
+    if (!lists(140, 13, 133, 0, "refused 13 at 133\n"))
+        return fails("the listing of a refused file");
+
+    uint32_t table[1] = {7};
+    uint8_t text[1] = {7};
+    xcf_list_answer l = xcf_list(file, sizeof file, table, 1, text, 1);
+    if (l.number != 11 || l.place != 0 || l.marked != 0 || l.length != 0 || table[0] != 7 || text[0] != 7)
+        return fails("the refusal of a short text by xcf_list");
+    return 0;
+}
+
 static int answers(xcf_decode_answer d, uint64_t number, uint64_t place, uint64_t marked) {
     return d.number == number && d.place == place && d.marked == marked;
 }
@@ -146,5 +175,5 @@ static int writing_fails(void) {
 }
 
 int main(void) {
-    return tiles_fail() || reading_fails() || decoding_fails() || writing_fails();
+    return tiles_fail() || reading_fails() || listing_fails() || decoding_fails() || writing_fails();
 }

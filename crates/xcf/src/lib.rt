@@ -2,11 +2,14 @@
 ghost use mathlib.Core.Path.{_≡_};
 ghost use Rattle.xcf_tile.specs.Answer.{Decoded};
 ghost use Rattle.xcf_encode.specs.Answer.{TileEncoded};
-ghost use Rattle.xcf_read.specs.Answer.{Read};
+ghost use Rattle.xcf_read.specs.Answer.{fileLimit, Read};
 ghost use Rattle.xcf_decode.specs.Answer.{counting, DrawableDecoded};
 ghost use Rattle.xcf_write.specs.Answer.{Written};
+ghost use Rattle.xcf_listing.specs.Listing.{Lists};
 use xcf_decode::DecodeAnswer;
 use xcf_encode::EncodeAnswer;
+use xcf_listing::ListAnswer;
+use xcf_read::FILE_LIMIT;
 use xcf_read::ReadAnswer;
 use xcf_read::drawable::Canvas;
 use xcf_tile::TileAnswer;
@@ -97,4 +100,12 @@ pub extern "C" fn xcf_write(
         base,
     };
     xcf_write::write(canvas, table, names, pixels, output)
+}
+
+// The listing of a file, at the text's start, and the reader's table.
+#[no_mangle]
+pub extern "C" fn xcf_list(file: &[u8], table: &mut [u32], text: &mut [u8]) -> ListAnswer
+    ensures { λ r. ⌜ Lists fileLimit (now (file .entry)) (now (table .entry)) (now (text .entry)) r (now (table .exit)) (now (text .exit)) ⌝ }
+{
+    xcf_listing::list(file, FILE_LIMIT, table, text)
 }

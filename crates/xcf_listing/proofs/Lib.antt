@@ -3,3 +3,4 @@ pub mod Decimal
 pub mod Spaced
 pub mod Row
 pub mod Listed
+pub mod Marked

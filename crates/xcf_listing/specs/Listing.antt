@@ -1,4 +1,4 @@
--- The listing of a file: a line for its canvas and one for each row, or the refusal's line alone.
+-- The listing of a file: a line for its canvas and one for each row, or the refusal's line alone; and the answer beside it.
 use Prim.Native.Nat.{ℕ, zero, suc, _+_, _-_, _*_}
 use mathlib.Core.Path.{_≡_}
 use mathlib.Core.List.{List, [], _∷_, _++_}
@@ -7,8 +7,9 @@ use lib.ListN.{length, take, drop}
 use lib.Dec.{leb, eqb}
 use Rattle.xcf_table.specs.Table.{rowSize, rowAt}
 use Rattle.xcf_read.specs.declared.ReadAnswer.{ReadAnswer}
-use Rattle.xcf_read.specs.Answer.{Reading, reading}
+use Rattle.xcf_read.specs.Answer.{refusal, Reading, reading}
 use Rattle.xcf_decode.specs.Answer.{counting}
+use Rattle.xcf_listing.specs.declared.ListAnswer.{ListAnswer}
 use Rattle.xcf_listing.specs.Text.{newline, decimal, spaced, spacedAll}
 
 -- the words of a line, those behind another with a space
@@ -69,6 +70,12 @@ rowLines file table compression k zero = []
 rowLines file table compression k (suc n) =
     rowLine table k (counting file table k compression .marked) ++ rowLines file table compression (k + 1) n
 
+-- the marked tiles of n rows from row k on
+unfoldable pub markedTiles : List ℕ → List ℕ → ℕ → ℕ → ℕ → ℕ
+markedTiles file table compression k zero = 0
+markedTiles file table compression k (suc n) =
+    counting file table k compression .marked + markedTiles file table compression (k + 1) n
+
 unfoldable pub linesOf : List ℕ → Reading → List ℕ
 linesOf file x =
     cond (eqb (x .answer .number) 0)
@@ -79,9 +86,13 @@ linesOf file x =
 abbrev pub listLimit : ℕ
 listLimit = 32768
 
--- a file of more than `limit` bytes is refused as too long
+-- what the reader gives for a file of at most `limit` bytes; a longer one is refused as too long
+unfoldable pub readingWithin : ℕ → List ℕ → List ℕ → Reading
+readingWithin limit file table =
+    cond (leb (length file) limit) (reading file table) (record { answer = refusal 15 0; table = table })
+
 unfoldable pub listing : ℕ → List ℕ → List ℕ → List ℕ
-listing limit file table = cond (leb (length file) limit) (linesOf file (reading file table)) (refusedLine 15 0)
+listing limit file table = linesOf file (readingWithin limit file table)
 
 -- room for every listing
 abbrev pub textSize : ℕ
@@ -91,17 +102,31 @@ textSize = 65536
 unfoldable pub written : ℕ → List ℕ → List ℕ → ℕ → List ℕ
 written limit file table room = cond (leb textSize room) (listing limit file table) []
 
+-- the answer: what refused the file, its marked tiles, and the length of its listing
+unfoldable pub answerOf : List ℕ → Reading → ListAnswer
+answerOf file x = record {
+  number = x .answer .number;
+  place = x .answer .place;
+  marked = markedTiles file (x .table) (x .answer .compression) 0 (x .answer .rows);
+  length = length (linesOf file x);
+}
+
+-- 11 where there may be no room
+unfoldable pub listAnswer : ℕ → List ℕ → List ℕ → ℕ → ListAnswer
+listAnswer limit file table room =
+    cond (leb textSize room) (answerOf file (readingWithin limit file table)) (record { number = 11; place = 0; marked = 0; length = 0 })
+
 -- the table is the reader's, where the reader is asked
 unfoldable pub tableAfter : ℕ → List ℕ → List ℕ → ℕ → List ℕ
-tableAfter limit file table room = cond (leb textSize room) (cond (leb (length file) limit) (reading file table .table) table) table
+tableAfter limit file table room = cond (leb textSize room) (readingWithin limit file table .table) table
 
--- the promise: the number r of bytes written at the text's start, and the new content of table and text
-pub record Lists (limit : ℕ) (file oldTable oldText : List ℕ) (r : ℕ) (newTable newText : List ℕ) : Type 0 where
-  pub answer : r ≡ length (written limit file oldTable (length oldText))
-  pub text : newText ≡ written limit file oldTable (length oldText) ++ drop r oldText
+-- the promise: the answer r, and the new content of table and text
+pub record Lists (limit : ℕ) (file oldTable oldText : List ℕ) (r : ListAnswer) (newTable newText : List ℕ) : Type 0 where
+  pub answer : r ≡ listAnswer limit file oldTable (length oldText)
+  pub text : newText ≡ written limit file oldTable (length oldText) ++ drop (r .length) oldText
   pub table : newTable ≡ tableAfter limit file oldTable (length oldText)
 
--- the same of a printed listing, whose number of bytes is not answered
+-- the same of a printed listing, whose answer is not handed out
 abbrev pub Prints : List ℕ → List ℕ → List ℕ → List ℕ → List ℕ → Type 0
 Prints file oldTable oldText newTable newText =
-    Lists listLimit file oldTable oldText (length (written listLimit file oldTable (length oldText))) newTable newText
+    Lists listLimit file oldTable oldText (listAnswer listLimit file oldTable (length oldText)) newTable newText

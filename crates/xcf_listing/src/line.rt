@@ -1,8 +1,9 @@
 // The lines of a listing.
+ghost use mathlib.Core.Path.{_≡_};
 ghost use Prim.Native.Nat.{_+_, _*_, _≤_};
 ghost use lib.ListN.{length};
 ghost use Rattle.xcf_table.specs.Table.{rowSize};
-ghost use Rattle.xcf_listing.specs.Listing.{refusedLine, canvasLine, kindName, rowLine, rowLines};
+ghost use Rattle.xcf_listing.specs.Listing.{refusedLine, canvasLine, kindName, rowLine, rowLines, markedTiles};
 ghost use Rattle.xcf_listing.specs.Parts.{lineSize, halfSize, canvasSides, canvasRest, Puts};
 use crate::text::put_all;
 use crate::text::put_bytes;
@@ -86,7 +87,13 @@ fn put_row(table: &[u32], k: u32, marked: u64, text: &mut [u8], at: usize) -> us
     put_bytes(text, fifth, b"\n")
 }
 
-// The lines of the first rows of a table; the place behind them.
+// The place behind the lines put, and how many tiles of their rows are marked.
+pub(crate) struct RowsPut {
+    pub end: usize,
+    pub marked: u64,
+}
+
+// The lines of the first rows of a table.
 pub(crate) fn put_rows(
     file: &[u8],
     table: &[u32],
@@ -94,17 +101,20 @@ pub(crate) fn put_rows(
     rows: u32,
     text: &mut [u8],
     at: usize,
-) -> usize
+) -> RowsPut
     requires { ⌜ (at + lineSize * rows ≤ length (now text)) × (rowSize * rows ≤ length (now table)) ⌝ }
     ensures { λ r. ⌜ Puts (now (text .entry)) at (rowLines (now (file .entry)) (now (table .entry)) compression 0 rows)
-        (lineSize * rows) r (now (text .exit)) ⌝ }
+        (lineSize * rows) (r .end) (now (text .exit)) ⌝ }
+    ensures { λ r. ⌜ r .marked ≡ markedTiles (now (file .entry)) (now (table .entry)) compression 0 rows ⌝ }
 {
-    let mut next = at;
+    let mut end = at;
+    let mut marked: u64 = 0;
     let mut k: u32 = 0;
     while k < rows {
         let answer = count_marked(file, table, k, compression);
-        next = put_row(table, k, answer.marked, text, next);
+        end = put_row(table, k, answer.marked, text, end);
+        marked += answer.marked;
         k += 1;
     }
-    next
+    RowsPut { end, marked }
 }

@@ -7,6 +7,7 @@ use libc::STDOUT_FILENO;
 pub fn print_listing(file: &[u8], table: &mut [u32], text: &mut [u8])
     ensures { λ _. ⌜ Prints (now (file .entry)) (now (table .entry)) (now (text .entry)) (now (table .exit)) (now (text .exit)) ⌝ }
 {
-    let n = crate::list(file, LIST_LIMIT, table, text);
+    let answer = crate::list(file, LIST_LIMIT, table, text);
+    let n = answer.length as usize;
     io::write_all(STDOUT_FILENO, &text[..n]);
 }

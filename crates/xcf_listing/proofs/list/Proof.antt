@@ -1,5 +1,5 @@
--- `list` meets its contract: what is put is the listing, by the laws of `Listed`; an accepted file has at most 128 rows, whose lines fit
--- the text.
+-- `list` meets its contract: what is put and answered is the listing's, by the laws of `Listed`; an accepted file has at most 128 rows,
+-- whose lines fit the text.
 use native.Mathlib.Omega.{arith}
 use borrow.Author.Needs.{needs}
 use Rattle.xcf_listing.proofs.Written.{puts-then}
@@ -11,31 +11,43 @@ use Rattle.xcf_listing.proofs.list.Tie as tie
 accepted : (c : tie.Else3) → Listable (c .before .before .before .before .read .result) (c .before .before .before .before .read .last .1 .0)
 accepted c = listable _ _ (c .before .before .before .before .read .ensures) (c .if3 .left)
 
+refused-requires : tie.Need-refused-requires
+refused-requires c κs = search needs
+
 returns : tie.Need-returns
 returns c =
-    let start = c .before .before .before .before in
+    let short = c .before in
+    let start = short .before .before .before .before in
     lists-counted
-    (lists-none (start .args .limit) (start .args .file .now) (start .args .table .now) (start .args .text .now) (c .if1 .taken))
+    (lists-none (start .args .limit) (start .args .file .now) (start .args .table .now) (start .args .text .now) (short .if1 .taken)
+    (c .refused .ensures))
 
 put-refusal-requires : tie.Need-put-refusal-requires
 put-refusal-requires c κs = search needs
+
+refused-requires-2 : tie.Need-refused-requires-2
+refused-requires-2 c κs = search needs
 
 same-length : tie.Need-same-length
 same-length c = search needs
 
 returns-2 : tie.Need-returns-2
 returns-2 c =
-    let long = c .before .before .before .before in
+    let put = c .before .before .before in
+    let long = put .before .before in
     let start = long .before .before .before .before .before in
     lists-counted
     (lists-long (start .args .limit) (start .args .file .now) (start .args .table .now) (start .args .text .now)
-    (long .before .if1 .left) (long .if2 .taken) (c .before .before .put-refusal .ensures))
+    (long .before .if1 .left) (long .if2 .taken) (put .put-refusal .ensures) (c .refused2 .ensures))
 
 read-requires : tie.Need-read-requires
 read-requires c κs = search needs
 
 put-refusal-requires-2 : tie.Need-put-refusal-requires-2
 put-refusal-requires-2 c κs = search needs
+
+refused-requires-3 : tie.Need-refused-requires-3
+refused-requires-3 c κs = search needs
 
 same-length-2 : tie.Need-same-length-2
 same-length-2 c = search needs
@@ -45,13 +57,15 @@ same-length-3 c = search needs
 
 returns-3 : tie.Need-returns-3
 returns-3 c =
-    let refused = c .before .before .before .before in
+    let put = c .before .before .before in
+    let refused = put .before .before in
     let read = refused .before .before .before .before in
     let short = read .before .before in
     let start = short .before .before .before .before .before in
     lists-counted
     (lists-refused (start .args .limit) (start .args .file .now) (start .args .table .now) (start .args .text .now)
-    (short .before .if1 .left) (short .if2 .left) (read .read .ensures) (refused .if3 .taken) (c .before .before .put-refusal2 .ensures))
+    (short .before .if1 .left) (short .if2 .left) (read .read .ensures) (refused .if3 .taken) (put .put-refusal2 .ensures)
+    (c .refused3 .ensures))
 
 put-canvas-requires : tie.Need-put-canvas-requires
 put-canvas-requires c κs = search needs
@@ -64,9 +78,10 @@ cast-put-rows-2 c = omega (arith, accepted (c .before .before .before .before .b
 
 put-rows-requires : tie.Need-put-rows-requires
 put-rows-requires c κs =
-    let left = c .before .before .before .before .before .before .before .before in
+    let canvas = c .before .before .before .before .before .before in
+    let left = canvas .before .before in
     let a = accepted left in
-    let put = c .before .before .before .before .before .before .put-canvas .ensures in
+    let put = canvas .put-canvas .ensures in
     let room = left .before .before .before .before .before .before .before .if1 .left in
     (omega (arith, a .few, put .behind, put .few, room), omega (arith, a .few, a .size))
 
@@ -78,27 +93,31 @@ same-length-5 c = search needs
 
 returns-4 : tie.Need-returns-4
 returns-4 c =
-    let canvas = c .before .before .before .before .before .before .before .before .before in
+    let rows = c .before .before in
+    let canvas = rows .before .before .before .before .before .before .before in
     let left = canvas .before .before in
     let read = left .before .before .before .before in
     let short = read .before .before in
     let start = short .before .before .before .before .before in
     let room = short .before .if1 .left in
-    let put = puts-then (canvas .put-canvas .ensures) (omega (arith, room, accepted left .few)) λ r. c .before .before .put-rows .ensures in
+    let put = puts-then (canvas .put-canvas .ensures) (omega (arith, room, accepted left .few)) λ r. rows .put-rows .ensures .0 in
     lists-counted
     (lists-accepted (start .args .limit) (start .args .file .now) (start .args .table .now) (start .args .text .now) room
-    (short .if2 .left) (read .read .ensures) (left .if3 .left) put)
+    (short .if2 .left) (read .read .ensures) (left .if3 .left) (rows .put-rows .ensures .1) put)
 
 pub list-spec : {M : Type 1} → statement M
 list-spec =
     tie.close
     (tie.spec
+    refused-requires
     returns
     put-refusal-requires
+    refused-requires-2
     same-length
     returns-2
     read-requires
     put-refusal-requires-2
+    refused-requires-3
     same-length-2
     same-length-3
     returns-3
