@@ -13,10 +13,10 @@ const TILE: usize = 64;
 const TILES: usize = (SIDE / TILE) * (SIDE / TILE);
 
 /// A drawable in a file of its own, and the pixels that it decodes to.
-struct Drawable {
+pub struct Drawable {
     content: &'static str,
     depth: usize,
-    file: Vec<u8>,
+    pub file: Vec<u8>,
     table: Vec<u32>,
     pixels: Vec<u8>,
 }
@@ -28,7 +28,7 @@ struct Lent {
 }
 
 impl Drawable {
-    fn new(content: &'static str, depth: usize, pixels: Vec<u8>) -> Self {
+    pub fn new(content: &'static str, depth: usize, pixels: Vec<u8>) -> Self {
         let windows = (0..TILES).map(|index| {
             let bytes = cut_out(&pixels, depth, index);
             tile::encode_pixels(&bytes, depth)

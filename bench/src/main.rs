@@ -1,9 +1,11 @@
 //! Measures the library's decoder and encoder against plain Rust ones, in one
 //! run, on 4,096 tiles of 64 by 64 pixels; then its reader, on whole files, its
-//! decoder of whole drawables, and its writer.
+//! decoder of whole drawables, and its writer; then a file from the disk, also
+//! against ImageMagick.
 
 mod decoding;
 mod files;
+mod peers;
 mod plain;
 mod plain_decode;
 mod plain_read;
@@ -165,4 +167,6 @@ fn main() {
     decoding::compare_decoders();
     println!();
     writing::compare_writers();
+    println!();
+    peers::compare_peers();
 }

@@ -78,11 +78,12 @@ pub type Read = fn(&[u8], &mut [u32]) -> ReadAnswer;
 pub type DecodeDrawable = fn(&[u8], &[u32], u32, u32, &mut [u8], &mut [u8]) -> DecodeAnswer;
 /// A counter of marked tiles: file, table, row, compression.
 pub type CountMarked = fn(&[u8], &[u32], u32, u32) -> DecodeAnswer;
+/// A lister: file, table, text.
+pub type List = fn(&[u8], &mut [u32], &mut [u8]) -> ListAnswer;
 /// A writer: width, height, base, table, names, pixels, output.
 pub type Write = fn(u32, u32, u32, &[u32], &[u8], &[u8], &mut [u8]) -> WriteAnswer;
 
 /// The answer to decoding a tile.
-#[repr(C)]
 #[derive(Clone, Copy, Debug, PartialEq, Eq)]
 pub struct TileAnswer {
     pub number: u64,
@@ -115,7 +116,6 @@ impl TileAnswer {
 }
 
 /// The answer to encoding a tile, or to writing a file.
-#[repr(C)]
 #[derive(Clone, Copy, Debug, PartialEq, Eq)]
 pub struct WriteAnswer {
     pub number: u64,
@@ -146,7 +146,6 @@ impl WriteAnswer {
 }
 
 /// The answer to reading a file.
-#[repr(C)]
 #[derive(Clone, Copy, Debug, PartialEq, Eq)]
 pub struct ReadAnswer {
     pub number: u64,
@@ -175,7 +174,6 @@ impl ReadAnswer {
 }
 
 /// The answer to decoding a drawable, or to counting its marked tiles.
-#[repr(C)]
 #[derive(Clone, Copy, Debug, PartialEq, Eq)]
 pub struct DecodeAnswer {
     pub number: u64,
@@ -197,6 +195,26 @@ impl DecodeAnswer {
             number: 0,
             place: 0,
             marked: marked as u64,
+        }
+    }
+}
+
+/// The answer to listing a file.
+#[derive(Clone, Copy, Debug, PartialEq, Eq)]
+pub struct ListAnswer {
+    pub number: u64,
+    pub place: u64,
+    pub marked: u64,
+    pub length: u64,
+}
+
+impl ListAnswer {
+    pub fn new(read: ReadAnswer, marked: u64, length: usize) -> Self {
+        ListAnswer {
+            number: read.number,
+            place: read.place,
+            marked,
+            length: length as u64,
         }
     }
 }

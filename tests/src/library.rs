@@ -1,71 +1,27 @@
-//! The static library's functions, with safe wrappers.
+//! The static library's functions, with the answers of this package.
 
-use crate::answer::{DecodeAnswer, ReadAnswer, TileAnswer, WriteAnswer};
+use xcf_tool::library;
 
-unsafe extern "C" {
-    fn xcf_decode_tile(
-        window: *const u8,
-        window_length: usize,
-        width: u32,
-        height: u32,
-        depth: u32,
-        compression: u32,
-        pixels: *mut u8,
-        pixels_length: usize,
-    ) -> TileAnswer;
+use crate::answer::{DecodeAnswer, ListAnswer, ReadAnswer, TileAnswer, WriteAnswer};
 
-    fn xcf_encode_tile(
-        pixels: *const u8,
-        pixels_length: usize,
-        width: u32,
-        height: u32,
-        depth: u32,
-        output: *mut u8,
-        output_length: usize,
-    ) -> WriteAnswer;
+/// Answers of the same fields.
+macro_rules! convert {
+    ($($name:ident { $($field:ident),+ })+) => {$(
+        impl From<library::$name> for $name {
+            fn from(answer: library::$name) -> Self {
+                let library::$name { $($field),+ } = answer;
+                $name { $($field),+ }
+            }
+        }
+    )+};
+}
 
-    fn xcf_read(
-        file: *const u8,
-        file_length: usize,
-        table: *mut u32,
-        table_length: usize,
-    ) -> ReadAnswer;
-
-    fn xcf_decode(
-        file: *const u8,
-        file_length: usize,
-        table: *const u32,
-        table_length: usize,
-        row: u32,
-        compression: u32,
-        pixels: *mut u8,
-        pixels_length: usize,
-        marks: *mut u8,
-        marks_length: usize,
-    ) -> DecodeAnswer;
-
-    fn xcf_count_marked(
-        file: *const u8,
-        file_length: usize,
-        table: *const u32,
-        table_length: usize,
-        row: u32,
-        compression: u32,
-    ) -> DecodeAnswer;
-
-    fn xcf_write(
-        width: u32,
-        height: u32,
-        base: u32,
-        table: *const u32,
-        table_length: usize,
-        names: *const u8,
-        names_length: usize,
-        pixels: *const u8,
-        pixels_length: usize,
-        output: *mut u8,
-        output_length: usize,
-    ) -> WriteAnswer;
+convert! {
+    TileAnswer { number, place, mark, consumed, operations }
+    WriteAnswer { number, place, length }
+    ReadAnswer { number, place, width, height, base, version, compression, rows }
+    DecodeAnswer { number, place, marked }
+    ListAnswer { number, place, marked, length }
 }
 
 pub fn decode_tile(
@@ -76,20 +32,7 @@ pub fn decode_tile(
     compression: u32,
     pixels: &mut [u8],
 ) -> TileAnswer {
-    // SAFETY: both slices are valid for their lengths during the call, and
-    // they do not overlap.
-    unsafe {
-        xcf_decode_tile(
-            window.as_ptr(),
-            window.len(),
-            width,
-            height,
-            depth,
-            compression,
-            pixels.as_mut_ptr(),
-            pixels.len(),
-        )
-    }
+    library::decode_tile(window, width, height, depth, compression, pixels).into()
 }
 
 pub fn encode_tile(
@@ -99,25 +42,15 @@ pub fn encode_tile(
     depth: u32,
     output: &mut [u8],
 ) -> WriteAnswer {
-    // SAFETY: both slices are valid for their lengths during the call, and
-    // they do not overlap.
-    unsafe {
-        xcf_encode_tile(
-            pixels.as_ptr(),
-            pixels.len(),
-            width,
-            height,
-            depth,
-            output.as_mut_ptr(),
-            output.len(),
-        )
-    }
+    library::encode_tile(pixels, width, height, depth, output).into()
 }
 
 pub fn read(file: &[u8], table: &mut [u32]) -> ReadAnswer {
-    // SAFETY: both slices are valid for their lengths during the call, and
-    // they do not overlap.
-    unsafe { xcf_read(file.as_ptr(), file.len(), table.as_mut_ptr(), table.len()) }
+    library::read(file, table).into()
+}
+
+pub fn list(file: &[u8], table: &mut [u32], text: &mut [u8]) -> ListAnswer {
+    library::list(file, table, text).into()
 }
 
 pub fn decode(
@@ -128,36 +61,11 @@ pub fn decode(
     pixels: &mut [u8],
     marks: &mut [u8],
 ) -> DecodeAnswer {
-    // SAFETY: all four slices are valid for their lengths during the call, and
-    // none overlaps another.
-    unsafe {
-        xcf_decode(
-            file.as_ptr(),
-            file.len(),
-            table.as_ptr(),
-            table.len(),
-            row,
-            compression,
-            pixels.as_mut_ptr(),
-            pixels.len(),
-            marks.as_mut_ptr(),
-            marks.len(),
-        )
-    }
+    library::decode(file, table, row, compression, pixels, marks).into()
 }
 
 pub fn count_marked(file: &[u8], table: &[u32], row: u32, compression: u32) -> DecodeAnswer {
-    // SAFETY: both slices are valid for their lengths during the call.
-    unsafe {
-        xcf_count_marked(
-            file.as_ptr(),
-            file.len(),
-            table.as_ptr(),
-            table.len(),
-            row,
-            compression,
-        )
-    }
+    library::count_marked(file, table, row, compression).into()
 }
 
 pub fn write(
@@ -169,21 +77,5 @@ pub fn write(
     pixels: &[u8],
     output: &mut [u8],
 ) -> WriteAnswer {
-    // SAFETY: all four slices are valid for their lengths during the call, and
-    // the output overlaps none of the others.
-    unsafe {
-        xcf_write(
-            width,
-            height,
-            base,
-            table.as_ptr(),
-            table.len(),
-            names.as_ptr(),
-            names.len(),
-            pixels.as_ptr(),
-            pixels.len(),
-            output.as_mut_ptr(),
-            output.len(),
-        )
-    }
+    library::write(width, height, base, table, names, pixels, output).into()
 }

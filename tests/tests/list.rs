@@ -1,0 +1,116 @@
+//! Compares the library's listings with the reference's: equal answers, equal
+//! tables, equal texts, what stands behind the listing among them.
+
+use xcf_compare::answer::{
+    FILE_LIMIT, FILE_TOO_LONG, LIST_LIMIT, List, ListAnswer, TABLE_LENGTH, WRONG_LENGTH,
+};
+use xcf_compare::cases::drawable::{self, Kind as DrawableKind};
+use xcf_compare::files::{EXAMPLE, random_case};
+use xcf_compare::guard::Guarded;
+use xcf_compare::list::{TEXT_LENGTH, list, list_into};
+use xcf_compare::random::Random;
+use xcf_compare::{library, report};
+
+const SEED: u64 = 0x6C69_7374_0000_0001;
+const FILES: usize = 10_000;
+const DAMAGED_FILES: usize = 4_000;
+
+/// Lists with both and asserts that all is equal; gives the answer and the
+/// listing.
+fn list_both(file: &[u8], table: &[u32], text: &[u8]) -> (ListAnswer, String) {
+    let run = |list: List| {
+        let (mut table, mut text) = (Guarded::new(table), Guarded::new(text));
+        let answer = list(file, table.lent(), text.lent());
+        (answer, table, text)
+    };
+    let (expected, table, mut text) = run(list_into);
+    let (given, their_table, their_text) = run(library::list);
+    assert_eq!(given, expected, "file {file:02X?}");
+    assert_eq!(their_table.difference(&table), None, "file {file:02X?}");
+    assert_eq!(their_text.difference(&text), None, "file {file:02X?}");
+    let listing = text.lent()[..expected.length as usize].to_vec();
+    (expected, String::from_utf8(listing).expect("ASCII"))
+}
+
+/// Holds the listing to the small program's, where that lists the file.
+fn assert_printed(file: &[u8], listing: &str) {
+    assert!(file.len() > LIST_LIMIT || listing == list(file));
+}
+
+#[test]
+fn files_agree() {
+    let mut random = Random::new(SEED);
+    let text = random.bytes(TEXT_LENGTH + 3);
+    let (mut accepted, mut refused, mut longest) = (0, 0, 0);
+    for _ in 0..FILES {
+        let case = random_case(&mut random);
+        let (answer, listing) = list_both(&case.file, &case.table, &text);
+        if case.table.len() == TABLE_LENGTH {
+            assert_printed(&case.file, &listing);
+        }
+        accepted += usize::from(answer.number == 0);
+        refused += usize::from(answer.number != 0);
+        longest = longest.max(listing.len());
+    }
+    report(&format!(
+        "list: {FILES} files, {accepted} accepted, {refused} refused, a listing of {longest} bytes"
+    ));
+    assert!(accepted >= 2_000 && refused >= 2_000 && longest >= 8_000);
+}
+
+/// The marked tiles of all rows are counted.
+#[test]
+fn damaged_files_agree() {
+    let mut random = Random::new(SEED ^ 1);
+    let (text, mut marked) = (vec![0xA5; TEXT_LENGTH], Vec::new());
+    for _ in 0..DAMAGED_FILES {
+        let case = drawable::case(&mut random, DrawableKind::Damaged);
+        let (answer, listing) = list_both(&case.file, &vec![0xA5; TABLE_LENGTH], &text);
+        assert_printed(&case.file, &listing);
+        let counts = listing.lines().filter_map(|line| line.split_once(" bad "));
+        let counts: Vec<u64> = counts.map(|(_, n)| n.parse().expect("a number")).collect();
+        assert_eq!(counts.iter().sum::<u64>(), answer.marked);
+        if counts.iter().filter(|count| **count > 0).count() >= 2 {
+            marked.push(answer.marked);
+        }
+    }
+    report(&format!(
+        "list: {DAMAGED_FILES} damaged files, {} with marked tiles in several rows",
+        marked.len()
+    ));
+    assert!(marked.len() >= 100);
+}
+
+/// A text that is too short, or a table of another length, and nothing is
+/// touched but the refusal's line.
+#[test]
+fn lengths() {
+    let short = vec![0xA5; TEXT_LENGTH - 1];
+    let (answer, listing) = list_both(&EXAMPLE, &[7; TABLE_LENGTH], &short);
+    assert_eq!((answer.number, answer.place), (WRONG_LENGTH, 0));
+    assert_eq!((answer.marked, listing.as_str()), (0, ""));
+    for length in [0, TABLE_LENGTH - 1, TABLE_LENGTH + 1] {
+        let text = vec![0xA5; TEXT_LENGTH];
+        let (answer, listing) = list_both(&EXAMPLE, &vec![7; length], &text);
+        assert_eq!(answer.number, WRONG_LENGTH);
+        assert_eq!(listing, "refused 11 at 0\n");
+    }
+}
+
+/// The limit is the reader's, not the small program's.
+#[test]
+fn limits() {
+    let (table, text) = (vec![7; TABLE_LENGTH], vec![0xA5; TEXT_LENGTH]);
+    let mut file = EXAMPLE.to_vec();
+    file.resize(LIST_LIMIT + 1, 0);
+    let (answer, listing) = list_both(&file, &table, &text);
+    assert_eq!((answer.number, listing), (0, list(&EXAMPLE)));
+    file.resize(FILE_LIMIT + 1, 0);
+    let mut after = table.clone();
+    let answer = library::list(&file, &mut after, &mut text.clone());
+    assert_eq!((answer.number, answer.place), (FILE_TOO_LONG, 0));
+    assert_eq!((answer.length, &after), (16, &table));
+    file.pop();
+    let answer = library::list(&file, &mut after, &mut text.clone());
+    assert_eq!((answer.number, answer.marked), (0, 0));
+}

@@ -1,0 +1,149 @@
+//! What is written: a file under a temporary name until it is complete, or
+//! standard output.
+
+use std::ffi::OsStr;
+use std::fs::{self, File, Metadata, OpenOptions};
+use std::io::{self, BufWriter, Write};
+use std::os::unix::fs::MetadataExt;
+use std::path::{Path, PathBuf};
+use std::process;
+
+use crate::escape::printable_path;
+use crate::fault::Fault;
+
+/// Prints a text.
+pub fn print(text: &[u8]) -> Result<(), Fault> {
+    print_all(|stdout| stdout.write_all(text))
+}
+
+fn print_all(put: impl FnOnce(&mut dyn Write) -> io::Result<()>) -> Result<(), Fault> {
+    let printed = put_all(io::stdout().lock(), put);
+    printed.map_err(|error| Fault::of_file(OsStr::new("standard output"), &error))
+}
+
+fn put_all(to: impl Write, put: impl FnOnce(&mut dyn Write) -> io::Result<()>) -> io::Result<()> {
+    let mut to = BufWriter::new(to);
+    put(&mut to)?;
+    to.flush()
+}
+
+/// Where a command's result goes.
+pub struct Target<'a> {
+    path: &'a OsStr,
+    force: bool,
+}
+
+impl<'a> Target<'a> {
+    /// A target that may be written: standard output for `-`; else a file that
+    /// is none of the inputs, and not there yet unless `force` replaces it.
+    pub fn new(path: &'a OsStr, inputs: &[&OsStr], force: bool) -> Result<Self, Fault> {
+        if path.is_empty() {
+            return Err(Fault::usage("OUT is an empty word"));
+        }
+        let target = Target { path, force };
+        target.must_be_free()?;
+        match inputs.iter().any(|input| target.is_file(input)) {
+            true => Err(target.fault("is also an input, and is not replaced")),
+            false => Ok(target),
+        }
+    }
+
+    fn is_standard_output(&self) -> bool {
+        self.path == "-"
+    }
+
+    fn must_be_free(&self) -> Result<(), Fault> {
+        if self.is_standard_output() || fs::symlink_metadata(self.path).is_err() {
+            return Ok(());
+        }
+        match fs::metadata(self.path) {
+            Ok(old) if old.is_dir() => Err(self.fault("is a folder, not a file")),
+            Ok(old) if !old.is_file() => Err(self.fault("is not a regular file")),
+            _ if self.force => Ok(()),
+            _ => Err(self.fault("is there already; --force replaces it")),
+        }
+    }
+
+    fn is_file(&self, input: &OsStr) -> bool {
+        let input = if input == "-" {
+            OsStr::new("/dev/stdin")
+        } else {
+            input
+        };
+        let same =
+            |one: Metadata, other: Metadata| (one.dev(), one.ino()) == (other.dev(), other.ino());
+        match (fs::metadata(self.path), fs::metadata(input)) {
+            (Ok(old), Ok(input)) => same(old, input),
+            _ => false,
+        }
+    }
+
+    fn fault(&self, words: &str) -> Fault {
+        Fault::system(format!("{}: {words}", printable_path(self.path)))
+    }
+
+    /// Writes what `put` puts. The target is complete or, after a fault, as it
+    /// was.
+    pub fn write(&self, put: impl FnOnce(&mut dyn Write) -> io::Result<()>) -> Result<(), Fault> {
+        if self.is_standard_output() {
+            return print_all(put);
+        }
+        let failed = |error| Fault::of_file(self.path, &error);
+        let draft = Draft::new(Path::new(self.path)).map_err(failed)?;
+        put_all(&draft.file, put).map_err(failed)?;
+        draft.file.sync_all().map_err(failed)?;
+        self.must_be_free()?;
+        draft.finish(Path::new(self.path)).map_err(failed)
+    }
+}
+
+/// A file beside its target, removed unless it is finished.
+struct Draft {
+    path: PathBuf,
+    file: File,
+    finished: bool,
+}
+
+impl Draft {
+    fn new(target: &Path) -> io::Result<Self> {
+        target.file_name().ok_or(io::ErrorKind::IsADirectory)?;
+        // A killed command may have left a name with the same number.
+        for again in 0.. {
+            let path = target.with_file_name(draft_name(again));
+            let file = OpenOptions::new().write(true).create_new(true).open(&path);
+            match file {
+                Err(error) if error.kind() == io::ErrorKind::AlreadyExists && again < 100 => {}
+                file => {
+                    return Ok(Draft {
+                        file: file?,
+                        path,
+                        finished: false,
+                    });
+                }
+            }
+        }
+        unreachable!("the last try returns")
+    }
+
+    fn finish(mut self, target: &Path) -> io::Result<()> {
+        fs::rename(&self.path, target)?;
+        self.finished = true;
+        Ok(())
+    }
+}
+
+impl Drop for Draft {
+    fn drop(&mut self) {
+        if !self.finished {
+            let _ = fs::remove_file(&self.path);
+        }
+    }
+}
+
+/// A name that no other running command has.
+fn draft_name(again: u32) -> String {
+    match (process::id(), again) {
+        (id, 0) => format!(".xcf-{id}.tmp"),
+        (id, again) => format!(".xcf-{id}-{again}.tmp"),
+    }
+}

@@ -1,0 +1,24 @@
+//! What the tests share: folders in which the command runs, the files it is
+//! given, and the numbers it lists.
+
+// Each file of tests is built by itself and uses a part of this.
+#![allow(dead_code, unused_imports)]
+
+pub mod files;
+pub mod folder;
+pub mod listing;
+pub mod pam;
+pub mod refusals;
+pub mod text;
+
+pub use folder::{Answer, Folder, XCF};
+pub use pam::Pam;
+
+/// The side of a tile.
+pub const TILE: usize = 64;
+
+/// Tells on standard output that a test could not be made on this machine; the
+/// test then passes.
+pub fn not_here(what: &str) {
+    println!("NOT TESTED: {what}");
+}
