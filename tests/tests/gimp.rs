@@ -1,0 +1,284 @@
+//! Files that GIMP wrote, made by `data/make`: all that GIMP says of them, and
+//! every pixel that it reads in them, is what the library gives.
+
+use std::fs;
+use std::path::PathBuf;
+
+use xcf_compare::answer::{
+    DecodeAnswer, DecodeDrawable, LIST_LIMIT, OVERRUN, Read, ReadAnswer, Row, TABLE_LENGTH,
+};
+use xcf_compare::decode::Drawable;
+use xcf_compare::gimp::{Facts, data_folder, without_places};
+use xcf_compare::guard::{Guarded, difference};
+use xcf_compare::list::{TEXT_LENGTH, list};
+use xcf_compare::{decode, library, read, report};
+
+/// The chart with a tile overwritten, and which tile of which row that is.
+const DAMAGED: &str = "chart-damaged";
+const DAMAGED_ROW: usize = 0;
+const DAMAGED_TILE: usize = 5;
+
+/// The files that are compared, and the drawables in them.
+const FILES: usize = 8;
+const DRAWABLES: usize = 50;
+
+fn data_file(name: &str) -> PathBuf {
+    data_folder().join(name)
+}
+
+/// A file of the folder, and what reading it gives.
+struct Sample {
+    name: String,
+    file: Vec<u8>,
+    answer: ReadAnswer,
+    table: Vec<u32>,
+}
+
+/// The answer to decoding a row, its pixels and its marks.
+struct Decoded {
+    answer: DecodeAnswer,
+    pixels: Guarded<u8>,
+    marks: Guarded<u8>,
+}
+
+impl Sample {
+    /// Reads a file with the library and with the reference: both must accept
+    /// it and give the same.
+    fn new(name: &str) -> Self {
+        let file = fs::read(data_file(&format!("{name}.xcf"))).unwrap();
+        let (expected, ours) = read_with(read::read, &file);
+        let (answer, mut theirs) = read_with(library::read, &file);
+        assert_eq!(answer, expected, "{name}");
+        assert_eq!(theirs.difference(&ours), None, "{name}");
+        assert_eq!(answer.number, 0, "{name}");
+        Sample {
+            name: name.to_string(),
+            file,
+            answer,
+            table: theirs.lent().to_vec(),
+        }
+    }
+
+    /// All files of the folder but the damaged one.
+    fn all() -> Vec<Self> {
+        let names = names_with(".xcf");
+        let names = names.iter().filter(|name| *name != DAMAGED);
+        names.map(|name| Sample::new(name)).collect()
+    }
+
+    fn facts(&self) -> Facts {
+        Facts::read(&data_file(&format!("{}.txt", self.name)))
+    }
+
+    fn rows(&self) -> &[Row] {
+        &self.table.as_chunks().0[..self.answer.rows as usize]
+    }
+
+    /// Decodes a row with the library and with the reference, which must give
+    /// the same; gives the pixels and marks.
+    fn decode(&self, row: usize) -> (Vec<u8>, Vec<u8>) {
+        let ours = self.decode_with(decode::decode, row);
+        let mut theirs = self.decode_with(library::decode, row);
+        let what = format!("{}, row {row}", self.name);
+        assert_eq!(theirs.answer, ours.answer, "{what}");
+        assert_eq!(theirs.pixels.difference(&ours.pixels), None, "{what}");
+        assert_eq!(theirs.marks.difference(&ours.marks), None, "{what}");
+        let compression = self.answer.compression as u32;
+        let counted = library::count_marked(&self.file, &self.table, row as u32, compression);
+        assert_eq!(counted, ours.answer, "{what}");
+        (theirs.pixels.lent().to_vec(), theirs.marks.lent().to_vec())
+    }
+
+    fn decode_with(&self, decode: DecodeDrawable, row: usize) -> Decoded {
+        let drawable = self.drawable(row);
+        let mut pixels = Guarded::new(&vec![0xA5; drawable.pixels_length()]);
+        let mut marks = Guarded::new(&vec![0xA5; drawable.tile_count()]);
+        let compression = self.answer.compression as u32;
+        let (file, table) = (&self.file, &self.table);
+        let lent = (pixels.lent(), marks.lent());
+        let answer = decode(file, table, row as u32, compression, lent.0, lent.1);
+        Decoded {
+            answer,
+            pixels,
+            marks,
+        }
+    }
+
+    fn drawable(&self, row: usize) -> Drawable {
+        let compression = self.answer.compression as u32;
+        Drawable::new(&self.file, &self.table, row as u32, compression).expect("a row")
+    }
+
+    /// The pixels of a row as GIMP reads them.
+    fn exported(&self, row: usize) -> Vec<u8> {
+        fs::read(data_file(&format!("{}.{row}.raw", self.name))).unwrap()
+    }
+}
+
+fn read_with(read: Read, file: &[u8]) -> (ReadAnswer, Guarded<u32>) {
+    let mut table = Guarded::new(&[0xA5A5_A5A5; TABLE_LENGTH]);
+    let answer = read(file, table.lent());
+    (answer, table)
+}
+
+/// The names of the folder's files that end so, without that end, sorted.
+fn names_with(end: &str) -> Vec<String> {
+    let entries = fs::read_dir(data_folder()).unwrap();
+    let names = entries.map(|entry| entry.unwrap().file_name().into_string().unwrap());
+    let mut names: Vec<String> = names
+        .filter_map(|name| name.strip_suffix(end).map(str::to_string))
+        .collect();
+    names.sort();
+    names
+}
+
+/// Everything that GIMP says of a file, and nothing else, is in the table.
+#[test]
+fn rows_are_as_gimp_says() {
+    let mut compared = 0;
+    for sample in Sample::all() {
+        let (facts, answer) = (sample.facts(), sample.answer);
+        let canvas = [facts.width, facts.height, facts.base].map(u64::from);
+        assert_eq!([answer.width, answer.height, answer.base], canvas);
+        assert_eq!(sample.rows().len(), facts.drawables.len());
+        for (row, drawable) in sample.rows().iter().zip(&facts.drawables) {
+            assert_eq!(without_places(row), drawable.row, "{}", sample.name);
+            let name = &sample.file[row[5] as usize..][..row[6] as usize];
+            assert_eq!(name, drawable.name.as_bytes(), "{}", sample.name);
+            compared += 1;
+        }
+    }
+    report(&format!("GIMP's files: {compared} rows as GIMP says"));
+    assert_eq!(compared, DRAWABLES);
+}
+
+/// No tile is marked, and each pixel is the one that GIMP reads.
+#[test]
+fn pixels_are_as_gimp_reads_them() {
+    let (mut compared, mut bytes) = (0, 0);
+    for sample in Sample::all() {
+        for row in 0..sample.rows().len() {
+            let (pixels, marks) = sample.decode(row);
+            let what = format!("{}, row {row}", sample.name);
+            assert!(marks.iter().all(|&mark| mark == 0), "{what}");
+            let exported = sample.exported(row);
+            assert_eq!(difference(&pixels, &exported), None, "{what}");
+            compared += 1;
+            bytes += pixels.len();
+        }
+    }
+    report(&format!(
+        "GIMP's files: {compared} drawables, {bytes} bytes of pixels as GIMP reads them"
+    ));
+    assert_eq!(compared, DRAWABLES);
+}
+
+/// The numbers of a listing's line for a row: its fields but the kind, and how
+/// many tiles are marked.
+fn listed_numbers(line: &str) -> (Vec<u32>, u32) {
+    let words: Vec<&str> = line.split(' ').collect();
+    let [_, _, fields @ .., "bad", marked] = words.as_slice() else {
+        panic!("{line}");
+    };
+    let number = |word: &&str| word.parse().expect("a number");
+    (fields.iter().map(number).collect(), number(marked))
+}
+
+/// The library's listing of a file; it leaves the table as the reader does.
+fn listing(sample: &Sample) -> String {
+    let (mut table, mut text) = (vec![0xA5; TABLE_LENGTH], vec![0xA5; TEXT_LENGTH]);
+    let answer = library::list(&sample.file, &mut table, &mut text);
+    assert_eq!((answer.number, answer.place), (0, 0), "{}", sample.name);
+    assert_eq!(difference(&table, &sample.table), None, "{}", sample.name);
+    text.truncate(answer.length as usize);
+    String::from_utf8(text).expect("ASCII")
+}
+
+/// The listing has the rows of the table, in order, and marks what is marked.
+fn assert_listed(sample: &Sample, marked: impl Fn(usize) -> u32) {
+    let listing = listing(sample);
+    let lines: Vec<&str> = listing.lines().collect();
+    let (canvas, lines) = lines.split_first().expect("a canvas");
+    let ReadAnswer { width, height, .. } = sample.answer;
+    assert!(canvas.starts_with(&format!("canvas {width} {height} base ")));
+    assert!(canvas.ends_with(&format!(" rows {}", lines.len())));
+    assert_eq!(lines.len(), sample.rows().len(), "{}", sample.name);
+    let kinds = ["", "layer", "mask", "channel"];
+    for (row, (line, fields)) in lines.iter().zip(sample.rows()).enumerate() {
+        let start = format!("{row} {} ", kinds[fields[0] as usize]);
+        assert!(line.starts_with(&start), "{}: {line}", sample.name);
+        assert_eq!(listed_numbers(line), (fields[1..].to_vec(), marked(row)));
+    }
+}
+
+#[test]
+fn listings_are_the_tables() {
+    let samples = Sample::all();
+    assert_eq!(samples.len(), FILES);
+    for sample in &samples {
+        assert_listed(sample, |_| 0);
+        if sample.file.len() <= LIST_LIMIT {
+            assert_eq!(listing(sample), list(&sample.file), "{}", sample.name);
+        }
+    }
+}
+
+/// The damaged chart reads as the chart does; the overwritten tile alone is
+/// marked, and its pixels alone are others: zeros.
+#[test]
+fn one_tile_is_damaged() {
+    let (chart, damaged) = (Sample::new("chart"), Sample::new(DAMAGED));
+    assert_eq!(damaged.answer, chart.answer);
+    assert_eq!(difference(&damaged.table, &chart.table), None);
+    assert_listed(&damaged, |row| u32::from(row == DAMAGED_ROW));
+    for row in 0..chart.rows().len() {
+        let drawable = chart.drawable(row);
+        let (pixels, marks) = damaged.decode(row);
+        let exported = chart.exported(row);
+        for (tile, &mark) in marks.iter().enumerate() {
+            let [given, whole] = [&pixels, &exported].map(|bytes| drawable.cut_out(tile, bytes));
+            if (row, tile) == (DAMAGED_ROW, DAMAGED_TILE) {
+                assert_eq!(u64::from(mark), OVERRUN);
+                assert!(given.iter().all(|&byte| byte == 0));
+                assert_ne!(given, whole, "the tile shows a part of the trace");
+            } else {
+                assert_eq!(mark, 0, "row {row}, tile {tile}");
+                assert_eq!(difference(&given, &whole), None, "row {row}, tile {tile}");
+            }
+        }
+    }
+}
+
+/// Which values a field or an answer has, in order and each once.
+fn values<T: Ord>(all: impl Iterator<Item = T>) -> Vec<T> {
+    let mut values: Vec<T> = all.collect();
+    values.sort();
+    values.dedup();
+    values
+}
+
+/// The folder has what it is there for, and nothing that is not compared.
+#[test]
+fn samples_are_varied() {
+    let samples = Sample::all();
+    assert_eq!(samples.len(), FILES);
+    assert_eq!(names_with(".txt").len(), FILES);
+    assert_eq!(names_with(".raw").len(), DRAWABLES);
+    let answers = || samples.iter().map(|sample| sample.answer);
+    assert_eq!(values(answers().map(|answer| answer.version)), [0, 1, 2, 3]);
+    assert_eq!(values(answers().map(|answer| answer.base)), [0, 1, 2]);
+    let rows = || samples.iter().flat_map(Sample::rows);
+    assert_eq!(values(rows().map(|row| row[0])), [1, 2, 3]);
+    let layers = || rows().filter(|row| row[0] == 1);
+    assert_eq!(values(layers().map(|row| row[4])), [0, 1, 2, 3, 4, 5]);
+    assert_eq!(values(rows().map(|row| row[14])).len(), 20);
+    for flag in [1, 2, 4, 8, 16] {
+        let set = rows().filter(|row| row[11] & flag != 0).count();
+        assert!((1..DRAWABLES).contains(&set), "flag {flag}: {set}");
+    }
+    for field in [12, 13] {
+        assert!(rows().any(|row| (row[field] as i32) < 0));
+        assert!(rows().any(|row| (row[field] as i32) > 0));
+    }
+    assert!(values(rows().map(|row| row[10])).len() >= 5);
+}
