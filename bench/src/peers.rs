@@ -3,14 +3,14 @@
 
 use std::fs;
 use std::hint::black_box;
-use std::path::{Path, PathBuf};
+use std::path::Path;
 use std::process::Command;
 use std::time::Instant;
 
 use xcf_compare::answer::{DecodeDrawable, Read, TABLE_LENGTH};
 use xcf_compare::gimp::data_folder;
 use xcf_compare::library;
-use xcf_compare::programs::{IMAGE_MAGICK, is_here};
+use xcf_compare::programs::{IMAGE_MAGICK, Scratch, is_here};
 
 use crate::decoding::Drawable;
 use crate::turns::{SIDE, contents};
@@ -42,7 +42,9 @@ pub fn compare_peers() {
 }
 
 fn compare(content: &str, depth: usize, file: &[u8]) {
-    let path = keep("large.xcf", file);
+    let scratch = Scratch::new("bench");
+    let path = scratch.file("large", "xcf");
+    fs::write(&path, file).expect("the temporary folder can be written");
     let small = data_folder().join("tiny.xcf");
     let mut lent = Lent {
         table: vec![0; TABLE_LENGTH],
@@ -67,13 +69,6 @@ fn compare(content: &str, depth: usize, file: &[u8]) {
     let (to_plain, of_peer) = (library / plain, peer / library);
     print!("file    {depth:>5}  {content:<7}{library:>12.0}{plain:>12.0}{to_plain:>9.2}");
     println!("{peer:>13.0}{of_peer:>9.0}");
-}
-
-/// A file in the folder for temporary ones.
-fn keep(name: &str, file: &[u8]) -> PathBuf {
-    let path = std::env::temp_dir().join(format!("xcf-bench-{name}"));
-    fs::write(&path, file).expect("the temporary folder can be written");
-    path
 }
 
 /// The time of some work in microseconds.

@@ -61,8 +61,7 @@ impl Sample {
         ];
         assert_eq!(command::run(words.to_vec()), self.status);
         let bytes = fs::read(&out).expect("what was extracted");
-        let end = bytes.windows(7).position(|part| part == b"ENDHDR\n");
-        let samples = bytes[end.expect("a header") + 7..].to_vec();
+        let samples = samples_in(&bytes);
         self.assert_marks(&samples);
         (out, samples)
     }
@@ -81,6 +80,12 @@ impl Sample {
     }
 }
 
+/// What stands behind a PAM file's header.
+fn samples_in(file: &[u8]) -> Vec<u8> {
+    let end = file.windows(7).position(|part| part == b"ENDHDR\n");
+    file[end.expect("a header") + 7..].to_vec()
+}
+
 #[test]
 fn image_magick_opens_every_band() {
     if !is_here(IMAGE_MAGICK) {
@@ -94,6 +99,25 @@ fn image_magick_opens_every_band() {
         let opened = run(limited(IMAGE_MAGICK).arg(file).args(["-depth", "8", form])).stdout;
         assert_eq!(opened.len(), samples.len(), "{}", sample.title());
         assert_eq!(difference(&opened, &samples), None, "{}", sample.title());
+    }
+}
+
+#[test]
+fn netpbm_opens_every_band() {
+    if !is_here("pamchannel") {
+        report("netpbm is not on this machine: what is extracted was not opened in it");
+        return;
+    }
+    let scratch = Scratch::new("extracted-netpbm");
+    for sample in &SAMPLES {
+        let (file, samples) = sample.extract(&scratch);
+        for band in 0..sample.bands {
+            let mut command = limited("pamchannel");
+            command.arg("-infile").arg(&file).arg(band.to_string());
+            let opened = samples_in(&run(&mut command).stdout);
+            let extracted = samples.iter().skip(band).step_by(sample.bands);
+            assert!(opened.iter().eq(extracted), "{}: {band}", sample.title());
+        }
     }
 }
 

@@ -20,7 +20,7 @@ _xcf_files() {
 _xcf_rows() {
     local command=$1 typed=$2 path rows
     path=$(xargs printf '%s' <<<"${3/#\~\//$HOME/}" 2>/dev/null) || return
-    rows=$("$command" list -- "$path" 2>/dev/null | sed -n 's/^\([0-9][0-9]*\) .*/\1/p')
+    rows=$("$command" list -- "$path" 2>/dev/null </dev/null | sed -n 's/^\([0-9][0-9]*\) .*/\1/p')
     _xcf_words "$rows" "$typed"
 }
 
@@ -66,7 +66,7 @@ _xcf_options() {
     extract) echo --no-marks --force --help ;;
     pack)
         echo --force --canvas --base --layer --mask --channel --opacity --offset --mode --hidden --visible \
-            --active --selection --unapplied --mark-band --marks --help
+            --active --selection --unapplied --mark-band --no-mark-band --marks --help
         ;;
     list | show | check) echo --help ;;
     esac

@@ -4,7 +4,7 @@ use std::collections::VecDeque;
 use std::ffi::{OsStr, OsString};
 use std::str::FromStr;
 
-use crate::escape::printable_path;
+use crate::escape::{printable, printable_path};
 use crate::fault::Fault;
 
 /// A word: an option with its dashes, or anything else.
@@ -65,8 +65,11 @@ impl Arguments {
 /// An option that a command does not have; every command has `--help`.
 pub fn other(option: &str) -> Fault {
     match option {
-        "--help" => Fault::help(),
-        _ => Fault::usage(format!("there is no option {option} here")),
+        "--help" | "-h" => Fault::help(),
+        _ => {
+            let option = printable(option.as_bytes());
+            Fault::usage(format!("there is no option {option} here"))
+        }
     }
 }
 

@@ -79,7 +79,7 @@ impl Command {
                 let see = format!("{sentence}; see xcf help {}", self.name);
                 Err(Fault::usage(see))
             }
-            Cause::Refused | Cause::System => Err(Fault { cause, sentence }),
+            _ => Err(Fault { cause, sentence }),
         }
     }
 }
@@ -107,8 +107,8 @@ fn printed(text: &str) -> Result<Status, Fault> {
 
 /// The words of a command that takes so many; `names` says which.
 fn exactly<const N: usize>(words: Vec<OsString>, names: &str) -> Result<[OsString; N], Fault> {
-    let given = words.len();
-    let wrong = |_| Fault::usage(format!("{given} words where {names} is due"));
+    let given = counted(words.len() as u64, "word");
+    let wrong = |_| Fault::usage(format!("{given} where {names} is due"));
     words.try_into().map_err(wrong)
 }
 
@@ -131,14 +131,19 @@ fn say_marked(image: &Image, row: u32, marked: u64) -> Status {
     Status::Refused
 }
 
-/// Does the same for each file; one that fails does not stop the others.
+/// Does the same for each file, for as long as something can be printed; a file
+/// that fails does not stop the others.
 fn for_each_file(
     files: &[OsString],
     mut run: impl FnMut(&OsStr) -> Result<Status, Fault>,
 ) -> Result<Status, Fault> {
     let mut status = Status::Fine;
     for file in files {
-        status = status.max(run(file).unwrap_or_else(|fault| fault.say()));
+        status = status.max(match run(file) {
+            Ok(status) => status,
+            Err(fault) if fault.cause == Cause::Output => return Err(fault),
+            Err(fault) => fault.say(),
+        });
     }
     Ok(status)
 }

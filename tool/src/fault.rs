@@ -32,6 +32,8 @@ pub enum Cause {
     Usage,
     /// The system fails.
     System,
+    /// Nothing more can be printed.
+    Output,
     /// The command's help is asked for.
     Help,
 }
@@ -67,6 +69,11 @@ impl Fault {
         }
     }
 
+    /// An error of the system about standard output.
+    pub fn output(error: &io::Error) -> Self {
+        Fault::new(Cause::Output, format!("standard output: {}", cause(error)))
+    }
+
     /// An error of the system about a file.
     pub fn of_file(path: &OsStr, error: &io::Error) -> Self {
         Fault::system(format!("{}: {}", printable_path(path), cause(error)))
@@ -77,7 +84,7 @@ impl Fault {
         say(&self.sentence);
         match self.cause {
             Cause::Refused => Status::Refused,
-            Cause::Usage | Cause::System | Cause::Help => Status::Failed,
+            Cause::Usage | Cause::System | Cause::Output | Cause::Help => Status::Failed,
         }
     }
 }

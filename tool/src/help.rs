@@ -12,8 +12,9 @@ usage: xcf COMMAND ...
   xcf pack OUT.xcf ITEM...     an XCF file from PAM files and names
   xcf help COMMAND             all about a command; also xcf COMMAND --help
 
-FILE may be - for standard input. Exit status: 0 fine, 1 a file is refused or a
-tile is marked, 2 wrong usage or a fault of the system.
+FILE may be - for standard input, and OUT for standard output. Exit status: 0
+fine, 1 a file is refused or a tile is marked, 2 wrong usage or a fault of the
+system.
 ";
 
 pub const LIST: &str = "\
@@ -59,7 +60,6 @@ usage: xcf extract [--no-marks] [--force] FILE ROW OUT.pam
 Writes the pixels of a row, by its number in `xcf list`, as a Netpbm PAM file
 with one band more, the last: 255 where the tile is good, 0 where it is marked.
 Marked tiles are also said on standard error, and the exit status is then 1.
-OUT may be - for standard output.
 
   --no-marks  leave the band of marks out
   --force     replace OUT where it exists
@@ -75,8 +75,8 @@ example:
 pub const PACK: &str = "\
 usage: xcf pack [--force] [--canvas WxH] [--base rgb|grey] OUT.xcf ITEM...
 
-Writes an XCF file from PAM files and names. An ITEM is one of these, layers
-first, each mask directly behind its layer, channels last:
+Writes an XCF file from PAM files and names. An ITEM is one of these: layers,
+the topmost first, each mask directly behind its layer, channels last:
 
   --layer NAME IN.pam    of 1 band (grey), 2 (grey, alpha), 3 (RGB) or 4 (RGBA)
   --mask NAME IN.pam     of 1 band, of the layer's size
@@ -91,9 +91,11 @@ and what is said of an item stands behind it:
   --active               the active layer or channel
   --selection            of a mask or channel: it is the selection
   --unapplied            of a mask: it is not applied to its layer
-  --mark-band            the last band of the PAM file is a band of marks, also
-                         where its header has no comment that says so
-  --marks NAME           keep the band of marks as a channel of this name
+  --mark-band            the last band of the PAM file is a band of marks
+  --no-mark-band         it is not; if neither is said, the comment in the PAM
+                         file's header tells
+  --marks NAME           keep the band of marks as a channel of this name, of
+                         the canvas's size, 255 where nothing is marked
 
 A band of marks, as `xcf extract` writes it, is not part of the pixels. Where it
 has marked pixels the file is refused, unless --marks keeps the band.
@@ -103,6 +105,7 @@ has marked pixels the file is refused, unless --marks keeps the band.
   --force       replace OUT where it exists
 
 example:
-  $ xcf pack new.xcf --layer paper paper.pam --layer pen pen.pam --offset 10,20 \\
-      --mask 'pen mask' mask.pam --channel suspect suspect.pam --visible
+  $ xcf pack new.xcf --canvas 200x150 --layer pen pen.pam --offset 10,20 \\
+      --mask 'pen mask' mask.pam --layer paper paper.pam \\
+      --channel suspect suspect.pam --visible
 ";

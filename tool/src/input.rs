@@ -6,11 +6,11 @@ use std::io::{self, Read};
 
 use crate::escape::printable_path;
 use crate::fault::Fault;
-use crate::memory::reserved;
+use crate::memory::{make_room, reserved};
 use crate::progress::Progress;
 
 /// How much is read between two lines of progress.
-const PART: u64 = 16 << 20;
+const PART: usize = 16 << 20;
 
 /// The bytes of a file, or of standard input for `-`, but not more than
 /// `most`.
@@ -37,12 +37,17 @@ fn read_parts(
     let mut bytes = reserved(room)?;
     let mut source = source.take(most as u64);
     loop {
-        progress.say(format!(
-            "reading {}: {} of {length} bytes",
-            printable_path(path),
-            bytes.len()
-        ));
-        match source.by_ref().take(PART).read_to_end(&mut bytes) {
+        let (name, read) = (printable_path(path), bytes.len());
+        progress.say(match length {
+            0 => format!("reading {name}: {read} bytes"),
+            _ => format!("reading {name}: {read} of {length} bytes"),
+        });
+        if read == bytes.capacity() {
+            make_room(&mut bytes, PART)?;
+        }
+        // No more than there is room for, so that the buffer does not grow.
+        let part = PART.min(bytes.capacity() - read) as u64;
+        match source.by_ref().take(part).read_to_end(&mut bytes) {
             Ok(0) => return Ok(bytes),
             Ok(_) => {}
             Err(error) => return Err(Fault::of_file(path, &error)),

@@ -2,8 +2,6 @@
 //! comes from the library's functions; this package reads and writes files,
 //! and shows what the functions answer.
 
-#![deny(unsafe_code)]
-
 pub mod arguments;
 pub mod command;
 pub mod escape;

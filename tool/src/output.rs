@@ -2,7 +2,7 @@
 //! standard output.
 
 use std::ffi::OsStr;
-use std::fs::{self, File, Metadata, OpenOptions};
+use std::fs::{self, File, Metadata, OpenOptions, Permissions};
 use std::io::{self, BufWriter, Write};
 use std::os::unix::fs::MetadataExt;
 use std::path::{Path, PathBuf};
@@ -18,7 +18,7 @@ pub fn print(text: &[u8]) -> Result<(), Fault> {
 
 fn print_all(put: impl FnOnce(&mut dyn Write) -> io::Result<()>) -> Result<(), Fault> {
     let printed = put_all(io::stdout().lock(), put);
-    printed.map_err(|error| Fault::of_file(OsStr::new("standard output"), &error))
+    printed.map_err(|error| Fault::output(&error))
 }
 
 fn put_all(to: impl Write, put: impl FnOnce(&mut dyn Write) -> io::Result<()>) -> io::Result<()> {
@@ -53,15 +53,26 @@ impl<'a> Target<'a> {
     }
 
     fn must_be_free(&self) -> Result<(), Fault> {
-        if self.is_standard_output() || fs::symlink_metadata(self.path).is_err() {
-            return Ok(());
+        match self.old() {
+            None => Ok(()),
+            Some(old) if old.is_dir() => Err(self.fault("is a folder, not a file")),
+            // A link or a device stays what it is.
+            Some(old) if !old.is_file() => Err(self.fault("is not a regular file")),
+            Some(_) if self.force => Ok(()),
+            Some(_) => Err(self.is_there()),
         }
-        match fs::metadata(self.path) {
-            Ok(old) if old.is_dir() => Err(self.fault("is a folder, not a file")),
-            Ok(old) if !old.is_file() => Err(self.fault("is not a regular file")),
-            _ if self.force => Ok(()),
-            _ => Err(self.fault("is there already; --force replaces it")),
+    }
+
+    /// What is there now.
+    fn old(&self) -> Option<Metadata> {
+        match self.is_standard_output() {
+            true => None,
+            false => fs::symlink_metadata(self.path).ok(),
         }
+    }
+
+    fn is_there(&self) -> Fault {
+        self.fault("is there already; --force replaces it")
     }
 
     fn is_file(&self, input: &OsStr) -> bool {
@@ -93,7 +104,14 @@ impl<'a> Target<'a> {
         put_all(&draft.file, put).map_err(failed)?;
         draft.file.sync_all().map_err(failed)?;
         self.must_be_free()?;
-        draft.finish(Path::new(self.path)).map_err(failed)
+        let target = Path::new(self.path);
+        match self.old() {
+            Some(old) => draft.replace(target, old.permissions()).map_err(failed),
+            None => match draft.place(target) {
+                Err(error) if error.kind() == io::ErrorKind::AlreadyExists => Err(self.is_there()),
+                placed => placed.map_err(failed),
+            },
+        }
     }
 }
 
@@ -125,10 +143,26 @@ impl Draft {
         unreachable!("the last try returns")
     }
 
-    fn finish(mut self, target: &Path) -> io::Result<()> {
+    /// Takes the place of a file, and its permissions.
+    fn replace(mut self, target: &Path, permissions: Permissions) -> io::Result<()> {
+        self.file.set_permissions(permissions)?;
         fs::rename(&self.path, target)?;
         self.finished = true;
         Ok(())
+    }
+
+    /// Takes a place that is free. A second name is given only where there is
+    /// none, also where a file came in between; the first is then removed.
+    fn place(mut self, target: &Path) -> io::Result<()> {
+        match fs::hard_link(&self.path, target) {
+            Err(error) if error.kind() != io::ErrorKind::AlreadyExists => {
+                // Not every file system has second names.
+                fs::rename(&self.path, target)?;
+                self.finished = true;
+                Ok(())
+            }
+            placed => placed,
+        }
     }
 }
 

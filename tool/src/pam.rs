@@ -99,8 +99,9 @@ pub struct Pam<'a> {
     pub width: u32,
     pub height: u32,
     pub bands: u32,
-    /// The header says that the last band is one of marks.
-    pub has_marks: bool,
+    /// How many bands the header's comment names, and whether the last of them
+    /// is one of marks; none where there is no such comment.
+    names: Option<(usize, bool)>,
     pub samples: &'a [u8],
 }
 
@@ -113,7 +114,7 @@ pub fn parse(bytes: &[u8]) -> Result<Pam<'_>, String> {
         let end = end.ok_or("the header does not end in ENDHDR")?;
         let line = String::from_utf8_lossy(&rest[..end]);
         rest = &rest[end + 1..];
-        if line.trim_end() == "ENDHDR" {
+        if line.trim() == "ENDHDR" {
             return header.with(rest);
         }
         header.take(&line)?;
@@ -127,17 +128,20 @@ struct Header {
     height: Option<u32>,
     bands: Option<u32>,
     most: Option<u32>,
-    has_marks: bool,
+    names: Option<(usize, bool)>,
 }
 
 impl Header {
     fn take(&mut self, line: &str) -> Result<(), String> {
         if line.starts_with('#') {
-            let names = line.strip_prefix(NAMES).unwrap_or_default();
-            self.has_marks |= names.split_whitespace().next_back() == Some(MARK);
+            if let Some(names) = line.strip_prefix(NAMES) {
+                let names = names.split_whitespace();
+                self.names = Some((names.clone().count(), names.last() == Some(MARK)));
+            }
             return Ok(());
         }
-        let (word, value) = line.split_once(char::is_whitespace).unwrap_or((line, ""));
+        let mut words = line.split_whitespace();
+        let word = words.next().unwrap_or_default();
         let number = match word {
             "WIDTH" => &mut self.width,
             "HEIGHT" => &mut self.height,
@@ -146,9 +150,14 @@ impl Header {
             "TUPLTYPE" | "" => return Ok(()),
             _ => return Err(format!("the header has the word {word:?}")),
         };
-        let value = value.trim().parse();
-        *number = Some(value.map_err(|_| format!("{word} in the header has no number"))?);
-        Ok(())
+        let value = words.next().unwrap_or_default();
+        let value = value.parse().map_err(|_| {
+            format!("the header has {word} {value:?}, which is no number of 32 bits")
+        })?;
+        match number.replace(value) {
+            None => Ok(()),
+            Some(_) => Err(format!("the header has {word} twice")),
+        }
     }
 
     /// The file of this header and the samples behind it.
@@ -169,41 +178,62 @@ impl Header {
             width,
             height,
             bands,
-            has_marks: self.has_marks,
+            names: self.names,
             samples,
         })
     }
 }
 
 impl Pam<'_> {
-    /// Puts the bytes of all bands but the last behind `pixels`, and those of
-    /// the last into `last`, where there is room for them.
-    pub fn split_last(&self, pixels: &mut Vec<u8>, last: &mut Vec<u8>) -> Result<(), String> {
-        let split = match self.bands {
-            2 => split::<1, 2>,
-            3 => split::<2, 3>,
-            4 => split::<3, 4>,
-            5 => split::<4, 5>,
-            _ => return Err("a band of marks stands behind 1 to 4 others".to_string()),
+    /// Whether the last band is one of marks, by the header's comment. One that
+    /// was kept while bands were added or taken away tells nothing.
+    pub fn has_marks(&self) -> Result<bool, String> {
+        match self.names {
+            None => Ok(false),
+            Some((count, mark)) if count == self.bands as usize => Ok(mark),
+            Some((count, _)) => Err(format!(
+                "the comment names {count} bands where DEPTH is {}; --mark-band or \
+                 --no-mark-band says whether the last is one of marks",
+                self.bands
+            )),
+        }
+    }
+
+    /// How many bands stand before one of marks.
+    pub fn depth_before_marks(&self) -> Result<u32, String> {
+        match self.bands {
+            2..=5 => Ok(self.bands - 1),
+            _ => Err("a band of marks stands behind 1 to 4 others".to_string()),
+        }
+    }
+
+    /// The samples of the last band.
+    pub fn last_band(&self) -> impl Iterator<Item = u8> {
+        let bands = self.bands as usize;
+        self.samples.iter().skip(bands - 1).step_by(bands).copied()
+    }
+
+    /// Puts the samples of the first bands, all of them or all but the last,
+    /// behind `pixels`, where there is room for them.
+    pub fn put_bands(&self, depth: u32, pixels: &mut Vec<u8>) {
+        let without_last = match (depth, self.bands) {
+            (1, 2) => without_last::<1, 2>,
+            (2, 3) => without_last::<2, 3>,
+            (3, 4) => without_last::<3, 4>,
+            (4, 5) => without_last::<4, 5>,
+            _ => return pixels.extend_from_slice(self.samples),
         };
-        let (start, count) = (pixels.len(), self.samples.len() / self.bands as usize);
-        last.resize(count, 0);
-        pixels.resize(start + self.samples.len() - count, 0);
-        split(self.samples, &mut pixels[start..], last);
-        Ok(())
+        let start = pixels.len();
+        let count = self.samples.len() / self.bands as usize;
+        pixels.resize(start + count * depth as usize, 0);
+        without_last(self.samples, &mut pixels[start..]);
     }
 }
 
 /// Each number of bands has a loop of its own, as in `join`.
-fn split<const DEPTH: usize, const BANDS: usize>(
-    samples: &[u8],
-    pixels: &mut [u8],
-    last: &mut [u8],
-) {
-    let samples = samples.as_chunks::<BANDS>().0.iter();
-    let pixels = pixels.as_chunks_mut::<DEPTH>().0.iter_mut();
-    for ((sample, pixel), last) in samples.zip(pixels).zip(last) {
+fn without_last<const DEPTH: usize, const BANDS: usize>(samples: &[u8], pixels: &mut [u8]) {
+    let (pixels, _) = pixels.as_chunks_mut::<DEPTH>();
+    for (sample, pixel) in samples.as_chunks::<BANDS>().0.iter().zip(pixels) {
         pixel.copy_from_slice(&sample[..DEPTH]);
-        *last = sample[DEPTH];
     }
 }

@@ -20,12 +20,10 @@ pub struct Progress {
 impl Progress {
     pub fn start() -> Self {
         let stage = Arc::new(Mutex::new(String::new()));
-        let shown = io::stderr().is_terminal().then(|| {
-            let (sender, receiver) = mpsc::channel();
-            let stage = Arc::clone(&stage);
-            let wait = move |time| receiver.recv_timeout(time) == Err(RecvTimeoutError::Timeout);
-            (sender, thread::spawn(move || show(&stage, wait)))
-        });
+        let shown = match io::stderr().is_terminal() {
+            true => start_showing(&stage),
+            false => None,
+        };
         Progress { stage, shown }
     }
 
@@ -44,6 +42,15 @@ impl Drop for Progress {
             let _ = thread.join();
         }
     }
+}
+
+/// Nothing is shown where there is no thread to be had.
+fn start_showing(stage: &Arc<Mutex<String>>) -> Option<(Sender<()>, JoinHandle<()>)> {
+    let (sender, receiver) = mpsc::channel();
+    let stage = Arc::clone(stage);
+    let wait = move |time| receiver.recv_timeout(time) == Err(RecvTimeoutError::Timeout);
+    let thread = thread::Builder::new().spawn(move || show(&stage, wait));
+    Some((sender, thread.ok()?))
 }
 
 /// `wait` tells whether the work still goes on after a time.

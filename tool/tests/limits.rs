@@ -114,6 +114,10 @@ fn the_largest_grey_drawable() {
     let none = "xcf: there is not enough memory for 268435456 bytes\n";
     within(&folder, 400_000, "extract large.xcf 0 out.pam").is(2, "", none);
     assert_eq!(folder.names(), ["large.xcf"]);
+    let piped = "cat large.xcf | (ulimit -v 200000 && exec ";
+    let piped = format!("{piped} {XCF} check -)");
+    let piped = answer(folder.program("bash").args(["-c", &piped]));
+    piped.fails(2, &["there is not enough memory"]);
     within(&folder, 560_000, "extract large.xcf 0 out.pam --no-marks").is(0, "", "");
     assert!(folder.get("out.pam") == pixels.bytes());
 

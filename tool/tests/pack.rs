@@ -113,8 +113,9 @@ fn the_header_of_a_pam_file_is_free_in_form() {
         "P7\n# a comment\n\n#another\nENDHDR_",
         "P7\nTUPLTYPE GRAYSCALE\nENDHDR_",
         "P7\nTUPLTYPE WHATEVER\n# bands: grey\nENDHDR_",
+        "P7\n \t TUPLTYPE  GRAYSCALE \n ENDHDR_",
     ];
-    let lines = ["WIDTH 2\n", "HEIGHT 1\n", "DEPTH 1\n", "MAXVAL 255\n"];
+    let lines = ["WIDTH 2\n", " HEIGHT 1\n", "DEPTH\t 1 \n", "MAXVAL 255\n"];
     let folder = Folder::with("good.pam", GOOD.as_bytes());
     folder.xcf("pack good.xcf --layer a good.pam").is(0, "", "");
     for header in headers {
@@ -132,7 +133,9 @@ fn the_header_of_a_pam_file_is_free_in_form() {
 }
 
 /// Parts of the good file, and what makes it a faulty one in their place.
-const FAULTS: [(&str, &str); 23] = [
+const FAULTS: [(&str, &str); 25] = [
+    ("WIDTH 2\n", "WIDTH 2\nWIDTH 2\n"),
+    ("DEPTH 1\n", "DEPTH 99999999999\n"),
     ("P7", "P5"),
     ("P7", "P7 "),
     (GOOD, ""),
@@ -292,6 +295,66 @@ fn marks_can_be_kept_as_a_channel() {
         assert!(line.ends_with(name), "{line}");
         let extracted = folder.xcf(&format!("extract o.xcf {number} - --no-marks"));
         assert!(extracted.stdout == pixels.bytes(), "{line}");
+    }
+}
+
+/// A layer that is smaller than the canvas, or lies elsewhere, has its marks
+/// where it lies.
+#[test]
+fn kept_marks_lie_where_their_layer_does() {
+    let samples = vec![1, 255, 0, 0, 3, 255, 0, 7];
+    let folder = Folder::with("s.pam", &Pam::new(2, 2, "grey mark", samples).bytes());
+    let pack = |offset| {
+        folder.xcf(&format!(
+            "pack --force o.xcf --canvas 4x3 --layer pen s.pam --offset {offset} --marks holes"
+        ))
+    };
+    for (offset, marked) in [("0,0", [1, 5]), ("2,1", [7, 11]), ("-1,1", [4, 8])] {
+        pack(offset).is(0, "", "");
+        let mut channel = vec![255; 12];
+        channel[marked[0]] = 0;
+        channel[marked[1]] = 7;
+        let extracted = folder.xcf("extract o.xcf 1 - --no-marks");
+        assert!(
+            extracted.stdout == Pam::new(4, 3, "grey", channel).bytes(),
+            "{offset}"
+        );
+    }
+    let kept = folder.get("o.xcf");
+    let said = "xcf: \"holes\": marked pixels lie outside the canvas\n";
+    for offset in [
+        "-2,0",
+        "3,0",
+        "0,-1",
+        "0,2",
+        "2147483647,0",
+        "0,-2147483648",
+    ] {
+        pack(offset).is(1, "", said);
+    }
+    assert!(folder.get("o.xcf") == kept);
+}
+
+/// A program may add or remove bands and keep the comment that names them.
+#[test]
+fn a_comment_for_other_bands_decides_nothing() {
+    let bytes = Pam::flat(2, 1, "red green blue", 255).bytes();
+    let text = String::from_utf8_lossy(&bytes[..bytes.len() - 6]).into_owned();
+    let stale = text.replace(
+        "# bands: red green blue\n",
+        "# bands: red green blue mark\n",
+    );
+    let folder = Folder::with("s.pam", &[stale.as_bytes(), &[255; 6]].concat());
+    let packed = folder.xcf("pack o.xcf --layer a s.pam");
+    packed.fails(
+        1,
+        &["xcf: s.pam: the comment names 4 bands where DEPTH is 3"],
+    );
+    for (said, layer_type) in [("--no-mark-band", 0), ("--mark-band", 3)] {
+        folder
+            .xcf(&format!("pack --force o.xcf --layer a s.pam {said}"))
+            .is(0, "", "");
+        assert_eq!(folder.listing("o.xcf").rows[0].fields[4], layer_type);
     }
 }
 

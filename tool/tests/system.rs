@@ -298,6 +298,38 @@ fn a_closed_pipe_is_told() {
     }
 }
 
+/// What cannot be printed is told once, and no further file is read for it.
+#[test]
+fn a_closed_pipe_ends_the_command() {
+    let folder = with_both();
+    for words in [
+        "check example.xcf example.xcf none",
+        "list example.xcf example.xcf none",
+    ] {
+        let (reader, writer) = io::pipe().expect("a pipe");
+        drop(reader);
+        let mut command = folder.command();
+        command.args(words.split(' ')).stdout(writer);
+        let said = "xcf: standard output: the pipe was closed before all was written\n";
+        answer(&mut command).is(2, "", said);
+    }
+}
+
+/// Marked tiles are told of also where their pixels were written in part.
+#[test]
+fn marks_are_told_where_output_fails() {
+    let folder = Folder::with_layer("pen.xcf", &Pam::noise(400, 400, "grey"));
+    folder.damage("pen.xcf", 0, &[3]);
+    for words in ["extract pen.xcf 0 -", "show pen.xcf"] {
+        let (reader, writer) = io::pipe().expect("a pipe");
+        drop(reader);
+        let mut command = folder.command();
+        command.args(words.split(' ')).stdout(writer);
+        let marked = "xcf: pen.xcf: row 0 \"pen\": 1 of 49 tiles marked\n";
+        answer(&mut command).fails(2, &[marked, "the pipe was closed"]);
+    }
+}
+
 /// A closed standard error is nobody to tell, and no reason to stop or to fail
 /// otherwise.
 #[test]
@@ -386,6 +418,45 @@ fn a_file_that_is_standard_input_is_never_the_output() {
         .stdin(input);
     answer(&mut command).fails(2, &["xcf: example.xcf: "]);
     assert_eq!(folder.get("example.xcf"), example());
+}
+
+/// A link stays one, and what it leads to stays as it is.
+#[test]
+fn a_link_is_not_replaced() {
+    let folder = with_both();
+    folder.put("real", b"kept");
+    for (link, to) in [("link", "real"), ("dangling", "none")] {
+        symlink(to, folder.path(link)).expect("a link");
+        for words in writers(link) {
+            let forced = folder.xcf(&format!("{words} --force"));
+            forced.is(2, "", &format!("xcf: {link}: is not a regular file\n"));
+        }
+        assert!(folder.path(link).is_symlink());
+    }
+    assert_eq!(folder.get("real"), b"kept");
+    assert_eq!(
+        folder.names(),
+        ["dangling", "example.xcf", "link", "p.pam", "real"]
+    );
+}
+
+/// What takes the place of a file has its permissions.
+#[test]
+fn permissions_are_kept() {
+    let folder = with_both();
+    for words in writers("out") {
+        folder.put("out", b"old");
+        let private = Permissions::from_mode(0o600);
+        fs::set_permissions(folder.path("out"), private).expect("a file of ours");
+        folder.xcf(&format!("{words} --force")).is(0, "", "");
+        let mode = fs::metadata(folder.path("out"))
+            .expect("a file")
+            .permissions()
+            .mode();
+        assert_eq!(mode & 0o777, 0o600);
+        assert_ne!(folder.get("out"), b"old");
+        folder.remove("out");
+    }
 }
 
 /// A target that is no plain file, such as a device or a pipe, stays what it is.

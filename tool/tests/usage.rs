@@ -73,6 +73,15 @@ fn too_few_too_many_and_unknown_words_are_wrong_usage() {
     assert_eq!(folder.names(), ["a.xcf"]);
 }
 
+/// A word that is no option is told on one line, whatever it holds.
+#[test]
+fn an_unknown_option_is_printable() {
+    let folder = Folder::new();
+    let forged = folder.run(["check", "-a\nxcf: all fine\u{1b}[2J"]);
+    let said = "there is no option -a\\nxcf: all fine\\u{1b}[2J here; see xcf help check";
+    forged.is(2, "", &format!("xcf: {said}\n"));
+}
+
 #[test]
 fn two_dashes_end_the_options() {
     let folder = Folder::with("--help", &example());

@@ -28,7 +28,9 @@ pub fn run(mut arguments: Arguments) -> Result<Status, Fault> {
     progress.say(image.decoding_words(row));
     let drawable = image.decode(row)?;
     progress.say(format!("writing row {row}"));
-    target.write(|to| pam::write(to, &image.row(row), &drawable, marks))?;
+    let written = target.write(|to| pam::write(to, &image.row(row), &drawable, marks));
     drop(progress);
-    Ok(say_marked(&image, row, drawable.marked))
+    // Marks are said also where writing stopped on the way.
+    let status = say_marked(&image, row, drawable.marked);
+    written.map(|()| status)
 }

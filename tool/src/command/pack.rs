@@ -2,6 +2,7 @@
 //! library's writer.
 
 mod item;
+mod kept;
 mod picture;
 
 use std::ffi::OsString;
@@ -40,9 +41,9 @@ pub fn run(arguments: Arguments) -> Result<Status, Fault> {
     for item in &request.items {
         picture.add(item, &progress)?;
     }
-    picture.add_kept()?;
     let canvas = request.canvas.or(picture.first_size());
     let canvas = canvas.ok_or_else(|| Fault::usage("no item: --canvas says the size"))?;
+    picture.add_kept(canvas)?;
     let base = request.base.unwrap_or(picture.first_base());
     progress.say("encoding".to_string());
     let file = picture.encode(canvas, base, out)?;

@@ -39,10 +39,12 @@ pub fn run(arguments: Arguments) -> Result<Status, Fault> {
     for ((number, row), marks) in image.rows().zip(&marks) {
         text += &map(&image, number, &row, marks);
     }
-    print(text.as_bytes())?;
+    let printed = print(text.as_bytes());
+    // Marks are said also where printing stopped on the way.
     let said = image.rows().zip(&marks);
     let said = said.map(|((number, _), marks)| say_marked(&image, number, marks.marked));
-    Ok(said.max().unwrap_or(Status::Fine))
+    let status = said.max().unwrap_or(Status::Fine);
+    printed.map(|()| status)
 }
 
 fn marks_of_rows(image: &Image, progress: &Progress) -> Result<Vec<Marks>, Fault> {

@@ -18,8 +18,9 @@ pub struct Item {
     pub active: bool,
     pub selection: bool,
     pub unapplied: bool,
-    /// The last band is one of marks, whatever the file says.
-    pub mark_band: bool,
+    /// Whether the last band is one of marks; where nothing is said, the file
+    /// tells.
+    pub mark_band: Option<bool>,
     /// The name of a channel for the band of marks.
     pub marks: Option<OsString>,
 }
@@ -47,7 +48,7 @@ impl Item {
             active: false,
             selection: false,
             unapplied: false,
-            mark_band: false,
+            mark_band: None,
             marks: None,
         })
     }
@@ -62,7 +63,8 @@ impl Item {
             "--active" => self.active = true,
             "--selection" => self.selection = true,
             "--unapplied" if self.kind == Kind::Mask => self.unapplied = true,
-            "--mark-band" => self.mark_band = true,
+            "--mark-band" => self.mark_band = Some(true),
+            "--no-mark-band" => self.mark_band = Some(false),
             "--marks" => self.marks = Some(arguments.value(option)?),
             _ => return Err(other(option)),
         }

@@ -5,11 +5,12 @@ use std::mem;
 use std::os::unix::ffi::OsStrExt;
 
 use super::item::Item;
+use super::kept::Kept;
 use crate::escape::{printable_path, quoted};
 use crate::fault::Fault;
 use crate::input::read_file;
 use crate::library::{self, FILE_LIMIT, OUTPUT_TOO_SHORT, ROW_LENGTH, TABLE_LENGTH, UNUSABLE_ROW};
-use crate::memory::{make_room, reserved, zeros};
+use crate::memory::{make_room, zeros};
 use crate::pam::{self, GOOD, Pam};
 use crate::progress::Progress;
 use crate::refusal::Refusal;
@@ -27,68 +28,62 @@ pub struct Picture {
     kept: Vec<Kept>,
 }
 
-/// A band of marks with its row and its name.
-struct Kept {
-    row: Row,
-    name: Vec<u8>,
-    band: Vec<u8>,
-}
-
 impl Picture {
     /// Adds an item: its row, its name and the pixels of its file.
     pub fn add(&mut self, item: &Item, progress: &Progress) -> Result<(), Fault> {
         let bytes = read_file(&item.path, PAM_LIMIT, progress)?;
         let refused = |words| Fault::refused(format!("{}: {words}", printable_path(&item.path)));
         let pam = pam::parse(&bytes).map_err(refused)?;
-        make_room(&mut self.pixels, pam.samples.len())?;
-        let depth = match item.mark_band || pam.has_marks {
-            false if item.marks.is_some() => return Err(refused("has no band of marks".into())),
-            false => {
-                self.pixels.extend_from_slice(pam.samples);
-                pam.bands
-            }
-            true => {
-                let mut band = reserved(pam.samples.len() / 2)?;
-                let split = pam.split_last(&mut self.pixels, &mut band);
-                split.map_err(refused)?;
-                self.keep(item, &pam, band).map_err(refused)?;
-                pam.bands - 1
-            }
+        let has_marks = match item.mark_band {
+            Some(said) => said,
+            None => pam.has_marks().map_err(refused)?,
+        };
+        let depth = match has_marks {
+            true => pam.depth_before_marks().map_err(refused)?,
+            false => pam.bands,
         };
         let row = self.row(item, Row::drawable(item.kind, pam.width, pam.height, depth));
+        match has_marks {
+            true => self.keep_marks(item, row, &pam).map_err(refused)?,
+            false if item.marks.is_some() => return Err(refused("has no band of marks".into())),
+            false => {}
+        }
+        make_room(&mut self.pixels, row.pixels_length())?;
+        pam.put_bands(depth, &mut self.pixels);
         self.add_row(row, item.name.as_bytes());
         Ok(())
     }
 
     /// Keeps a band of marks where the item says so; else it must have none.
-    fn keep(&mut self, item: &Item, pam: &Pam, band: Vec<u8>) -> Result<(), String> {
+    fn keep_marks(&mut self, item: &Item, row: Row, pam: &Pam) -> Result<(), String> {
         match &item.marks {
-            Some(name) => self.kept.push(Kept {
-                row: Row::drawable(Kind::Channel, pam.width, pam.height, 1),
-                name: name.as_bytes().to_vec(),
-                band,
-            }),
-            None if band.iter().all(|mark| *mark == GOOD) => {}
+            Some(name) => {
+                let (name, band) = (name.as_bytes().to_vec(), pam.last_band().collect());
+                self.kept.push(Kept { row, name, band });
+                Ok(())
+            }
+            None if pam.last_band().all(|mark| mark == GOOD) => Ok(()),
             None => {
                 let words = "has marked pixels; --marks NAME keeps its band of marks as a channel";
-                return Err(words.to_string());
+                Err(words.to_string())
             }
         }
-        Ok(())
     }
 
-    /// Adds the bands of marks that are kept.
-    pub fn add_kept(&mut self) -> Result<(), Fault> {
-        for Kept {
-            mut row,
-            name,
-            band,
-        } in mem::take(&mut self.kept)
-        {
-            make_room(&mut self.pixels, band.len())?;
-            self.pixels.extend_from_slice(&band);
+    /// Adds the bands of marks that are kept, as channels of the canvas's size.
+    pub fn add_kept(&mut self, (width, height): (u32, u32)) -> Result<(), Fault> {
+        for kept in mem::take(&mut self.kept) {
+            let refused = |words| Fault::refused(format!("{}: {words}", quoted(&kept.name)));
+            let mut row = Row::drawable(Kind::Channel, width, height, 1);
+            if row.pixels_length() > FILE_LIMIT {
+                return Err(refused("the canvas is too large"));
+            }
+            make_room(&mut self.pixels, row.pixels_length())?;
+            let start = self.pixels.len();
+            self.pixels.resize(start + row.pixels_length(), GOOD);
+            kept.put(&row, &mut self.pixels[start..]).map_err(refused)?;
             row[field::OWNER] = self.rows.len() as u32;
-            self.add_row(row, &name);
+            self.add_row(row, &kept.name);
         }
         Ok(())
     }
