@@ -4,6 +4,7 @@
 
 pub mod arguments;
 pub mod command;
+pub mod draft;
 pub mod escape;
 pub mod fault;
 pub mod help;
