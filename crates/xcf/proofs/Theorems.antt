@@ -24,13 +24,14 @@ use Rattle.xcf_decode.proofs.Refused.{decoder-listed}
 use Rattle.xcf_decode.proofs.RowDecoded.{row-decoded}
 use Rattle.xcf_decode.proofs.Isolated.{isolated}
 use Rattle.xcf_write.proofs.WriterNumbers.{writer-listed}
+use Rattle.xcf_listing.proofs.ListerNumbers.{lister-listed}
 use Rattle.xcf_round_trip.proofs.RoundTrip.{round-trip}
 use Rattle.xcf_round_trip.proofs.GivenTaken.{given-is-taken}
 use Rattle.xcf_round_trip.proofs.TakenExcepted.{taken-is-excepted}
 use Rattle.xcf.proofs.ExampleRead.{example-read}
 use Rattle.xcf.proofs.ExampleWritten.{example-written}
 use Rattle.xcf.proofs.ExampleDamaged.{example-damaged}
-use Rattle.xcf.specs.Statements.{ExamplesHold, PassedBytesDecide, StructureBytesDecide, RefusalsAreListed, AcceptedWithoutFault, ExampleFileIsRead, WrittenReadsBack, GivenRowsAreTaken, TakenRowsAreExcepted, ExampleFileIsWritten, WriterRefusalsAreListed, DamageIsIsolated, ExampleIsDamaged, AcceptedRowsDecode, PixelsAreTheirTiles, EachPixelHasOneTile, TilesAreShown, DecoderRefusalsAreListed, CountIsTheDecoders, MarksAreListed, ConsumedBytesDecide, ConsumedBytesDecideTheCall, PixelsAreStreams, PixelsAreWhole, MarkedPixelsAreZero, EncodedStreamBounded, StreamReadsBack, TileReadsBack, EncodedTileFits}
+use Rattle.xcf.specs.Statements.{ExamplesHold, PassedBytesDecide, StructureBytesDecide, RefusalsAreListed, AcceptedWithoutFault, ExampleFileIsRead, WrittenReadsBack, GivenRowsAreTaken, TakenRowsAreExcepted, ExampleFileIsWritten, WriterRefusalsAreListed, ListerRefusalsAreListed, DamageIsIsolated, ExampleIsDamaged, AcceptedRowsDecode, PixelsAreTheirTiles, EachPixelHasOneTile, TilesAreShown, DecoderRefusalsAreListed, CountIsTheDecoders, MarksAreListed, ConsumedBytesDecide, ConsumedBytesDecideTheCall, PixelsAreStreams, PixelsAreWhole, MarkedPixelsAreZero, EncodedStreamBounded, StreamReadsBack, TileReadsBack, EncodedTileFits}
 
 pub examples-hold : ExamplesHold
 unfolding headOf headAt operationOf operationAt streamFrom streamWithin streamAt streamsAt pixel interleave encodedTile tileIn tileOf leading equalBytes copiedBytes firstSegment segmentsWithin segments written writtenAll encodeStream
@@ -66,6 +67,9 @@ example-file-is-written = example-written
 
 pub writer-refusals-are-listed : WriterRefusalsAreListed
 writer-refusals-are-listed = writer-listed
+
+pub lister-refusals-are-listed : ListerRefusalsAreListed
+lister-refusals-are-listed = lister-listed
 
 pub damage-is-isolated : DamageIsIsolated
 damage-is-isolated = isolated

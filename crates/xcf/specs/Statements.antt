@@ -22,6 +22,7 @@ use Rattle.xcf_decode.specs.Answer.{fits, decoderNumbers, rowDecoding, decoding
 use Rattle.xcf_decode.specs.Isolation.{rowOf, Isolation}
 use Rattle.xcf_read.specs.declared.drawable.Canvas.{Canvas}
 use Rattle.xcf_write.specs.Answer.{writing, writerNumbers}
+use Rattle.xcf_listing.specs.Listing.{listAnswer, listerNumbers}
 use Rattle.xcf_round_trip.specs.RoundTrip.{RoundTrip}
 use Rattle.xcf_round_trip.specs.Taken.{GivenIsTaken, TakenIsExcepted}
 use Rattle.xcf.specs.DamagedExample.{DamagedExample}
@@ -91,6 +92,11 @@ ExampleFileIsWritten =
 abbrev pub WriterRefusalsAreListed : Type 0
 WriterRefusalsAreListed =
     (c : Canvas) (table names pixels output : List ℕ) → listed writerNumbers (writing c table names pixels output .answer .number) ≡ true
+
+-- What is answered beside a listing has number 0, 11, 15 or one of the walk's.
+abbrev pub ListerRefusalsAreListed : Type 0
+ListerRefusalsAreListed =
+    (limit : ℕ) (file table : List ℕ) (room : ℕ) → listed listerNumbers (listAnswer limit file table room .number) ≡ true
 
 -- Demand 3: damage inside the windows of some tiles changes nothing outside them. One claim over all rows and tiles of any accepted
 -- file, in full in `xcf_decode/specs/Isolation.antt`.

@@ -4,3 +4,4 @@ pub mod Spaced
 pub mod Row
 pub mod Listed
 pub mod Marked
+pub mod ListerNumbers

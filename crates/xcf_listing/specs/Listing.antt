@@ -7,7 +7,7 @@ use lib.ListN.{length, take, drop}
 use lib.Dec.{leb, eqb}
 use Rattle.xcf_table.specs.Table.{rowSize, rowAt}
 use Rattle.xcf_read.specs.declared.ReadAnswer.{ReadAnswer}
-use Rattle.xcf_read.specs.Answer.{refusal, Reading, reading}
+use Rattle.xcf_read.specs.Answer.{refusal, Reading, reading, refusals}
 use Rattle.xcf_decode.specs.Answer.{counting}
 use Rattle.xcf_listing.specs.declared.ListAnswer.{ListAnswer}
 use Rattle.xcf_listing.specs.Text.{newline, decimal, spaced, spacedAll}
@@ -115,6 +115,10 @@ answerOf file x = record {
 unfoldable pub listAnswer : ℕ → List ℕ → List ℕ → ℕ → ListAnswer
 listAnswer limit file table room =
     cond (leb textSize room) (answerOf file (readingWithin limit file table)) (record { number = 11; place = 0; marked = 0; length = 0 })
+
+-- the numbers that are answered: 0, and those of a refused reading
+abbrev pub listerNumbers : List ℕ
+listerNumbers = 0 ∷ 11 ∷ 15 ∷ refusals
 
 -- the table is the reader's, where the reader is asked
 unfoldable pub tableAfter : ℕ → List ℕ → List ℕ → ℕ → List ℕ
