@@ -11,9 +11,10 @@ use lib.ListN.{length}
 use Rattle.xcf_walk.specs.Walk.{run}
 use Rattle.xcf_table.specs.declared.Row.{Row}
 use Rattle.xcf_table.specs.Table.{rowAt}
-use Rattle.xcf_read.specs.Hierarchy.{pointerSize, tiles}
+use Rattle.xcf_parse.specs.Hierarchy.{pointerSize, tiles}
 use Rattle.xcf_decode.specs.declared.DecodeAnswer.{DecodeAnswer}
-use Rattle.xcf_decode.specs.Answer.{fits, refusal, pointersRefusal, rowRefusal, drawableRefusal, nonzero, marksOf, Decoding, rowDecoding, decoding, counting, DrawableDecoded}
+use Rattle.xcf_window.specs.Usable.{fits, rowRefusal}
+use Rattle.xcf_decode.specs.Answer.{refusal, pointersRefusal, drawableRefusal, nonzero, marksOf, Decoding, rowDecoding, decoding, counting, DrawableDecoded}
 
 -- a drawable's refusal
 module _ (f : List ℕ) (n : ℕ) (r : Row) (compression : ℕ) where

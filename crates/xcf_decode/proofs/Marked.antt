@@ -12,8 +12,8 @@ use lib.Dec.{eqb}
 use lib.ListN.{length}
 use borrow.Author.Tests.{eq-eqb, ne-eqb}
 use Rattle.xcf_decode.specs.Answer.{nonzero}
-use Rattle.xcf_decode.specs.Pixels.{tabulate}
-use Rattle.xcf_decode.proofs.Tabulated.{tabulate-length, tabulate-more}
+use Rattle.xcf_grid.specs.Pixels.{tabulate}
+use Rattle.xcf_grid.proofs.Tabulated.{tabulate-length, tabulate-more}
 
 -- what a mark adds
 abbrev adds : ℕ → ℕ

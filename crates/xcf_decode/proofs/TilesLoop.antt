@@ -12,19 +12,20 @@ use native.Mathlib.Numerals.{add-one}
 use lib.ListN.{length, take, set, length-set}
 use lib.Seq.{take-all, take-suc-set}
 use Rattle.xcf_table.specs.declared.Row.{Row}
-use Rattle.xcf_tile.specs.Grid.{tileWidth, tileHeight}
-use Rattle.xcf_tile.proofs.Pixels.{pixels-length}
-use Rattle.xcf_read.specs.Hierarchy.{pointerSize}
-use Rattle.xcf_read.proofs.Pointers.{few-tiles}
-use Rattle.xcf_decode.specs.Window.{tile}
-use Rattle.xcf_decode.specs.Pixels.{tabulate}
+use Rattle.xcf_grid.specs.Grid.{tileWidth, tileHeight}
+use Rattle.xcf_tile_laws.proofs.Pixels.{pixels-length}
+use Rattle.xcf_parse.specs.Hierarchy.{pointerSize}
+use Rattle.xcf_grid.proofs.FewTiles.{few-tiles}
+use Rattle.xcf_window.specs.Window.{tile}
+use Rattle.xcf_grid.specs.Pixels.{tabulate}
 use Rattle.xcf_decode.specs.Answer.{nonzero, marksOf, rowDecoding}
-use Rattle.xcf_decode.specs.Parts.{Ready, Placeable, Scratched, frameOf, putFrame}
-use Rattle.xcf_decode.proofs.Tabulated.{tabulate-more}
-use Rattle.xcf_decode.proofs.PutTile.{tile-framed}
-use Rattle.xcf_decode.proofs.OneTile.{pixels-small}
+use Rattle.xcf_window.specs.Parts.{Ready, Scratched}
+use Rattle.xcf_grid.specs.Parts.{Placeable, frameOf, putFrame}
+use Rattle.xcf_grid.proofs.Tabulated.{tabulate-more}
+use Rattle.xcf_grid.proofs.PutTile.{tile-framed}
+use Rattle.xcf_window.proofs.OneTile.{pixels-small}
 use Rattle.xcf_decode.proofs.Marked.{nonzero-next-good, nonzero-next-bad, nonzero-below}
-use Rattle.xcf_decode.proofs.Shown.{Shown, shown-none, shown-next, shown-all}
+use Rattle.xcf_grid.proofs.Shown.{Shown, shown-none, shown-next, shown-all}
 
 module _ (f : List ℕ) (r : Row) (compression : ℕ) where
   abbrev markOf : ℕ → ℕ

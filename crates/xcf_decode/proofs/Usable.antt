@@ -11,15 +11,16 @@ use borrow.Author.Tests.{leb-true, eqb-true}
 use lib.Dec.{leb, eqb}
 use Rattle.xcf_walk.specs.Walk.{Outcome, got, refused, run}
 use Rattle.xcf_table.specs.declared.Row.{Row}
-use Rattle.xcf_table.specs.Table.{tableSize}
-use Rattle.xcf_tile.specs.Grid.{tileCount}
-use Rattle.xcf_tile.specs.Answer.{within}
-use Rattle.xcf_tile.proofs.Sizes.{within-bounds}
-use Rattle.xcf_read.specs.Hierarchy.{pointerSize, tiles}
-use Rattle.xcf_read.specs.Answer.{fileLimit, refusals, listed}
-use Rattle.xcf_read.proofs.Numbers.{numbered-tiles}
-use Rattle.xcf_decode.specs.Answer.{inRange, inFile, usableRow, fits, pointersRefusal, rowRefusal}
-use Rattle.xcf_decode.specs.Parts.{Usable, Ready}
+use Rattle.xcf_table.specs.Table.{tableSize, fileLimit}
+use Rattle.xcf_grid.specs.Grid.{tileCount}
+use Rattle.xcf_range.specs.Range.{within}
+use Rattle.xcf_range.proofs.Bounds.{within-bounds}
+use Rattle.xcf_parse.specs.Hierarchy.{pointerSize, tiles}
+use Rattle.xcf_read.specs.Answer.{refusals, listed}
+use Rattle.xcf_read_laws.proofs.Numbers.{numbered-tiles}
+use Rattle.xcf_window.specs.Usable.{inRange, inFile, usableRow, fits, rowRefusal}
+use Rattle.xcf_decode.specs.Answer.{pointersRefusal}
+use Rattle.xcf_window.specs.Parts.{Usable, Ready}
 
 -- a choice that is 0 where its other branch is not
 cond-zero : (b : Bool) (x y : ℕ) → (y ≡ 0 → ⊥) → cond b x y ≡ 0 → (b ≡ true) × (x ≡ 0)

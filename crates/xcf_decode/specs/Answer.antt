@@ -1,36 +1,19 @@
 -- What the decoder of a drawable answers, and what it leaves in the buffers lent for the pixels and the marks. A pointer has `size`
 -- bytes.
-use Prim.Native.Nat.{ℕ, _+_, _*_}
+use Prim.Native.Nat.{ℕ, _+_}
 use mathlib.Core.Path.{_≡_}
 use mathlib.Core.List.{List, [], _∷_}
-use mathlib.Core.Bool.{Bool, true, cond, _&&_}
+use mathlib.Core.Bool.{Bool, true, cond}
 use lib.ListN.{length}
-use lib.Dec.{leb, eqb}
+use lib.Dec.{eqb}
 use Rattle.xcf_walk.specs.Walk.{Outcome, got, refused, run}
 use Rattle.xcf_table.specs.declared.Row.{Row}
-use Rattle.xcf_table.specs.Table.{tableSize, rowAt}
-use Rattle.xcf_tile.specs.Grid.{tileCount}
-use Rattle.xcf_tile.specs.Answer.{within}
-use Rattle.xcf_read.specs.Hierarchy.{pointerSize, tiles}
-use Rattle.xcf_read.specs.Answer.{fileLimit}
+use Rattle.xcf_table.specs.Table.{rowAt}
+use Rattle.xcf_parse.specs.Hierarchy.{pointerSize, tiles}
 use Rattle.xcf_decode.specs.declared.DecodeAnswer.{DecodeAnswer}
-use Rattle.xcf_decode.specs.Window.{tile}
-use Rattle.xcf_decode.specs.Pixels.{tabulate, pixelsOf}
-
--- kind 1 to 3, sides and depth in range; a row that the table does not have is an unused one, of kind 0
-unfoldable pub inRange : Row → Bool
-inRange r = within 1 3 (r .kind) && (within 1 16384 (r .width) && (within 1 16384 (r .height) && within 1 4 (r .depth)))
-
--- the count fits the sides; all pointers and the closing word lie in the file
-unfoldable pub inFile : ℕ → ℕ → Row → Bool
-inFile size fileLength r = eqb (r .count) (tileCount (r .width) (r .height)) && leb (r .tiles + size * (r .count + 1)) fileLength
-
-unfoldable pub usableRow : ℕ → ℕ → Row → ℕ → Bool
-usableRow size fileLength r compression = inRange r && (inFile size fileLength r && leb compression 1)
-
--- whether pixels and marks of these lengths fit a row
-unfoldable pub fits : Row → ℕ → ℕ → Bool
-fits r pixels marks = eqb pixels (r .width * r .height * r .depth) && eqb marks (r .count)
+use Rattle.xcf_window.specs.Window.{tile}
+use Rattle.xcf_grid.specs.Pixels.{tabulate, pixelsOf}
+use Rattle.xcf_window.specs.Usable.{fits, rowRefusal}
 
 abbrev pub refusal : ℕ → ℕ → DecodeAnswer
 refusal n p = record { number = n; place = p; marked = 0 }
@@ -39,11 +22,6 @@ refusal n p = record { number = n; place = p; marked = 0 }
 abbrev pub pointersRefusal : Outcome (Unit {0}) → DecodeAnswer
 pointersRefusal (got u q) = refusal 0 0
 pointersRefusal (refused n p) = refusal n p
-
--- 11 for the table, 15, 14, at 0 each; number 0 where the row is not refused
-unfoldable pub rowRefusal : ℕ → ℕ → ℕ → Row → ℕ → ℕ
-rowRefusal size fileLength tableLength r compression =
-    cond (eqb tableLength tableSize) (cond (leb fileLength fileLimit) (cond (usableRow size fileLength r compression) 0 14) 15) 11
 
 -- then 11 where the lent pixels or marks do not fit, then 13
 unfoldable pub drawableRefusal : ℕ → List ℕ → ℕ → Row → ℕ → Bool → DecodeAnswer

@@ -1,13 +1,13 @@
 // The marked tiles of a drawable, counted with the pixels of one tile at a time.
 ghost use mathlib.Core.Path.{_≡_};
 ghost use lib.ListN.{length};
-ghost use Rattle.xcf_read.specs.Hierarchy.{pointerSize};
+ghost use Rattle.xcf_parse.specs.Hierarchy.{pointerSize};
 ghost use Rattle.xcf_decode.specs.Answer.{nonzero, marksOf};
-ghost use Rattle.xcf_decode.specs.Parts.{Ready};
-use crate::tile::TILE_SIZE;
-use crate::tile::decode_one;
-use crate::tile::frame_of;
+ghost use Rattle.xcf_window.specs.Parts.{Ready};
+use xcf_grid::frame::TILE_SIZE;
+use xcf_grid::frame::frame_of;
 use xcf_table::Row;
+use xcf_window::tile::decode_one;
 
 fn count_tiles(file: &[u8], row: Row, compression: u32, scratch: &mut [u8]) -> u64
     requires { ⌜ Ready (now file) row compression × (length (now scratch) ≡ 16384) ⌝ }

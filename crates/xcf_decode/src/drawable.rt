@@ -2,14 +2,14 @@
 ghost use mathlib.Core.Path.{_≡_};
 ghost use Prim.Native.Nat.{_*_};
 ghost use lib.ListN.{length};
-ghost use Rattle.xcf_read.specs.Hierarchy.{pointerSize};
+ghost use Rattle.xcf_parse.specs.Hierarchy.{pointerSize};
 ghost use Rattle.xcf_decode.specs.Answer.{rowDecoding};
-ghost use Rattle.xcf_decode.specs.Parts.{Ready};
-use crate::place::put_tile;
-use crate::tile::TILE_SIZE;
-use crate::tile::decode_one;
-use crate::tile::frame_of;
+ghost use Rattle.xcf_window.specs.Parts.{Ready};
+use xcf_grid::frame::TILE_SIZE;
+use xcf_grid::frame::frame_of;
+use xcf_grid::put::put_tile;
 use xcf_table::Row;
+use xcf_window::tile::decode_one;
 
 // Every tile of the row: its pixels and its mark; and how many marks are not zero.
 fn decode_tiles(

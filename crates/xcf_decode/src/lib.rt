@@ -2,17 +2,15 @@
 mod check;
 mod count;
 mod drawable;
-mod place;
-mod tile;
 
 ghost use mathlib.Core.Path.{_≡_};
 ghost use Rattle.xcf_decode.specs.Answer.{refusal, counting, DrawableDecoded};
-use crate::check::fits;
 use crate::check::pointers_refusal;
-use crate::check::row_refusal;
 use crate::count::count_row;
 use crate::drawable::decode_row;
 use xcf_table::row_at;
+use xcf_window::check::fits;
+use xcf_window::check::row_refusal;
 
 #[repr(C)]
 pub struct DecodeAnswer {

@@ -10,10 +10,11 @@ use borrow.Author.Tests.{lt-ltb, le-ltb, eq-eqb, ne-eqb}
 use lib.ListN.{length}
 use lib.Seq.{sets-eq}
 use Rattle.xcf_encode.specs.declared.EncodeAnswer.{EncodeAnswer}
-use Rattle.xcf_encode.specs.Segment.{encodeStream}
+use Rattle.xcf_segment.specs.Segment.{encodeStream}
 use Rattle.xcf_encode.specs.Tile.{encodeTile}
 use Rattle.xcf_encode.specs.Answer.{roomRefusal, streamRefusal, tileRefusal, encodeAnswer, encodeOutput, StreamEncoded, TileEncoded}
-use Rattle.xcf_encode.specs.Parts.{Put, Fitted}
+use Rattle.xcf_store.specs.Put.{Put}
+use Rattle.xcf_encode.specs.Parts.{Fitted}
 use Rattle.xcf_tile.specs.Answer.{usableTile}
 
 -- a refusal

@@ -1,13 +1,5 @@
-pub mod Numbers
-pub mod Segments
-pub mod Scan
-pub mod Stores
-pub mod Written
-pub mod SegmentsLoop
 pub mod Answers
 pub mod Planes
-pub mod Bound
 pub mod StreamsBound
 pub mod StreamsLoop
-pub mod ReadBack
-pub mod TileReadBack
+pub mod TileBound

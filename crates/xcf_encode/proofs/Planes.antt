@@ -14,7 +14,7 @@ use lib.ListN.{length, getD, set, take, drop, length-append, length-take, length
 use lib.Seq.{sets, sets-eq, take-append-le, drop-append-le, take-at, drop-at, drop-cons}
 use Rattle.xcf_encode.specs.Tile.{plane, planes}
 use Rattle.xcf_encode.specs.Parts.{parts, Pixels, StreamsRoom}
-use Rattle.xcf_encode.proofs.Numbers.{one-more}
+use Rattle.xcf_laws.proofs.Steps.{one-more}
 
 pub plane-length : (n at depth : ℕ) (pixels : List ℕ) → length (plane n at depth pixels) ≡ n
 unfolding plane

@@ -9,7 +9,7 @@ use lib.ListN.{length, take, drop, length-append, length-take}
 use Rattle.xcf_encode.specs.Tile.{plane, planes, encodeAll}
 use Rattle.xcf_encode.specs.Parts.{mostBytes, parts}
 use Rattle.xcf_encode.proofs.Planes.{plane-length}
-use Rattle.xcf_encode.proofs.Bound.{bound}
+use Rattle.xcf_segment.proofs.Bound.{bound}
 
 -- so many streams of at most n bytes
 pub data Within (n : ℕ) : ℕ → List (List ℕ) → Type 0 where

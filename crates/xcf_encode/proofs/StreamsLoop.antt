@@ -9,11 +9,12 @@ use native.Mathlib.Numerals.{sub-one}
 use native.Mathlib.Omega.{arith}
 use lib.ListN.{length, take, drop, length-append}
 use lib.Seq.{sets, take-length}
-use Rattle.xcf_encode.specs.Segment.{encodeStream}
+use Rattle.xcf_segment.specs.Segment.{encodeStream}
 use Rattle.xcf_encode.specs.Tile.{planes, encodeAll, encodeTile}
-use Rattle.xcf_encode.specs.Parts.{mostBytes, parts, StreamsRoom, Put}
-use Rattle.xcf_encode.proofs.Numbers.{one-more, one-less}
-use Rattle.xcf_encode.proofs.Stores.{sets-append, put-part, put-length}
+use Rattle.xcf_encode.specs.Parts.{mostBytes, parts, StreamsRoom}
+use Rattle.xcf_store.specs.Put.{Put}
+use Rattle.xcf_laws.proofs.Steps.{one-more, one-less}
+use Rattle.xcf_store.proofs.Stores.{sets-append, put-part, put-length}
 use Rattle.xcf_encode.proofs.StreamsBound.{all-bound, parts-within}
 
 -- the encodings of a tile's streams are the tile's

@@ -6,7 +6,7 @@ use mathlib.Core.Bool.{cond}
 use lib.ListN.{length, drop}
 use lib.Dec.{ltb, eqb}
 use Rattle.xcf_encode.specs.declared.EncodeAnswer.{EncodeAnswer}
-use Rattle.xcf_encode.specs.Segment.{encodeStream}
+use Rattle.xcf_segment.specs.Segment.{encodeStream}
 use Rattle.xcf_encode.specs.Tile.{encodeTile}
 use Rattle.xcf_tile.specs.Answer.{usableTile}
 

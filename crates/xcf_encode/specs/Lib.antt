@@ -1,4 +1,3 @@
-pub mod Segment
 pub mod Tile
 pub mod Answer
 pub mod Parts

@@ -1,41 +1,10 @@
 -- The parts of the private functions' contracts, by name.
 use mathlib.Core.Path.{_≡_}
 use mathlib.Core.List.{List, [], _∷_}
-use mathlib.Core.Bool.{cond}
 use Prim.Native.Nat.{ℕ, zero, suc, _+_, _*_, _/_, _≤_, _<_}
-use lib.ListN.{length, getD, take, drop}
-use lib.Seq.{sets}
-use lib.Dec.{leb}
-use Rattle.xcf_encode.specs.declared.segment.SegmentRead.{SegmentRead}
-use Rattle.xcf_encode.specs.declared.segment.SegmentRead.the-variants.{Run, Copy}
+use lib.ListN.{length, take, drop}
 use Rattle.xcf_encode.specs.declared.EncodeAnswer.{EncodeAnswer}
-use Rattle.xcf_encode.specs.Segment.{Segment, runOf, copyOf, firstSegment}
 use Rattle.xcf_encode.specs.Answer.{roomRefusal, encodeAnswer, encodeOutput}
-
--- the length of an operation's opcode and length bytes
-abbrev pub headSize : ℕ → ℕ
-headSize count = cond (leb count 127) 1 3
-
--- the segment of so many bytes at `at`
-abbrev pub segmentRead : List ℕ → ℕ → SegmentRead → Segment
-segmentRead stream at (Run count) = runOf count (getD stream at 0)
-segmentRead stream at (Copy count) = copyOf (take count (drop at stream))
-
--- how many bytes it takes
-abbrev pub countRead : SegmentRead → ℕ
-countRead (Run count) = count
-countRead (Copy count) = count
-
--- the segment that starts at `at`: some bytes of the stream
-pub record SegmentAt (stream : List ℕ) (at : ℕ) (r : SegmentRead) : Type 0 where
-  pub segment : segmentRead stream at r ≡ firstSegment (drop at stream)
-  pub some : 0 < countRead r
-  pub inside : at + countRead r ≤ length stream
-
--- bs stored from `to` on, and the place behind them
-pub record Put (old : List ℕ) (to : ℕ) (bs : List ℕ) (r : ℕ) (new : List ℕ) : Type 0 where
-  pub behind : r ≡ to + length bs
-  pub output : new ≡ sets old to bs
 
 -- what is answered and left in the output where nothing but room is asked for
 pub record Fitted (encoding old : List ℕ) (r : EncodeAnswer) (new : List ℕ) : Type 0 where

@@ -2,7 +2,7 @@
 use Prim.Native.Nat.{ℕ, zero, suc, _+_}
 use mathlib.Core.List.{List, [], _∷_, _++_}
 use lib.ListN.{length, getD}
-use Rattle.xcf_encode.specs.Segment.{segments, encodeStream}
+use Rattle.xcf_segment.specs.Segment.{segments, encodeStream}
 
 -- n bytes of the pixels, the first at `at` and each `depth` behind the one before
 unfoldable pub plane : ℕ → ℕ → ℕ → List ℕ → List ℕ

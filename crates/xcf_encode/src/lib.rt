@@ -1,7 +1,4 @@
 // One stream, and one tile, encoded.
-mod measure;
-mod put;
-mod segment;
 mod streams;
 mod tile;
 

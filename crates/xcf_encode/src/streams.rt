@@ -4,10 +4,11 @@ ghost use Prim.Native.Nat.{_≤_};
 ghost use lib.ListN.{length};
 ghost use lib.Dec.{leb};
 ghost use Rattle.xcf_encode.specs.Tile.{encodeAll};
-ghost use Rattle.xcf_encode.specs.Parts.{mostBytes, parts, StreamsRoom, Put, Fitted};
+ghost use Rattle.xcf_encode.specs.Parts.{mostBytes, parts, StreamsRoom, Fitted};
+ghost use Rattle.xcf_store.specs.Put.{Put};
 use crate::EncodeAnswer;
-use crate::measure::encoded_size;
-use crate::put::put_stream;
+use xcf_segment::measure::encoded_size;
+use xcf_segment::put::put_stream;
 
 // The most bytes that a stream of n bytes is written in.
 fn most_bytes(n: usize) -> usize

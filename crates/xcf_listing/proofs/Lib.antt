@@ -1,7 +1,3 @@
-pub mod Written
-pub mod Decimal
-pub mod Spaced
-pub mod Row
+pub mod RowLines
 pub mod Listed
 pub mod Marked
-pub mod ListerNumbers

@@ -15,18 +15,18 @@ use lib.ListN.{length, length-append}
 use lib.Seq.{take-length, length-take-le}
 use Rattle.io.specs.Counts.{Counts}
 use Rattle.xcf_walk.specs.Walk.{Outcome, got, refused, run}
-use Rattle.xcf_walk.proofs.Cases.{below-or}
-use Rattle.xcf_table.specs.Table.{tableSize, rowAt}
-use Rattle.xcf_tile.proofs.Cases.{by-cases}
+use Rattle.xcf_laws.proofs.Cases.{below-or, by-cases}
+use Rattle.xcf_table.specs.Table.{tableSize, rowAt, fileLimit}
 use Rattle.xcf_read.specs.declared.ReadAnswer.{ReadAnswer}
-use Rattle.xcf_read.specs.Hierarchy.{pointerSize}
+use Rattle.xcf_parse.specs.Hierarchy.{pointerSize}
 use Rattle.xcf_read.specs.Image.{Image, image}
-use Rattle.xcf_read.specs.Answer.{fileLimit, refusal, Reading, readingOf, reading, Read}
-use Rattle.xcf_read.proofs.Accepted.{accepted-sized, read-walked, accepted-exactly}
-use Rattle.xcf_decode.proofs.Accepts.{Accepts, accepts}
+use Rattle.xcf_read.specs.Answer.{refusal, Reading, readingOf, reading, Read}
+use Rattle.xcf_read_laws.proofs.Accepted.{accepted-sized, read-walked, accepted-exactly}
+use Rattle.xcf_read_laws.proofs.Accepts.{Accepts, accepts}
 use Rattle.xcf_listing.specs.declared.ListAnswer.{ListAnswer}
-use Rattle.xcf_listing.specs.Listing.{textSize, canvasLine, rowLines, refusedLine, linesOf, markedTiles, listLimit, readingWithin, listing, written, answerOf, listAnswer, tableAfter, Lists, Prints}
-use Rattle.xcf_listing.specs.Parts.{Puts}
+use Rattle.xcf_listing.specs.Listing.{textSize, rowLines, linesOf, markedTiles, listLimit, readingWithin, listing, written, answerOf, listAnswer, tableAfter, Lists, Prints}
+use Rattle.xcf_line.specs.Line.{canvasLine, refusedLine}
+use Rattle.xcf_text.specs.Parts.{Puts}
 
 -- row 128 would be an unused row, of kind 0
 no-row : (table : List ℕ) → length table ≡ tableSize → rowAt table 128 .kind ≡ 0

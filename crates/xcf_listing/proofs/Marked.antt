@@ -14,13 +14,14 @@ use lib.ListN.{length}
 use Rattle.xcf_walk.specs.Walk.{Outcome, got, refused, run}
 use Rattle.xcf_table.specs.declared.Row.{Row}
 use Rattle.xcf_table.specs.Table.{rowAt}
-use Rattle.xcf_tile.proofs.Cases.{by-cases}
-use Rattle.xcf_read.specs.Hierarchy.{pointerSize, tiles}
-use Rattle.xcf_read.proofs.Pointers.{few-tiles}
+use Rattle.xcf_laws.proofs.Cases.{by-cases}
+use Rattle.xcf_parse.specs.Hierarchy.{pointerSize, tiles}
+use Rattle.xcf_grid.proofs.FewTiles.{few-tiles}
 use Rattle.xcf_decode.specs.declared.DecodeAnswer.{DecodeAnswer}
-use Rattle.xcf_decode.specs.Window.{tile}
-use Rattle.xcf_decode.specs.Answer.{refusal, pointersRefusal, rowRefusal, drawableRefusal, nonzero, marksOf, counted, counting}
-use Rattle.xcf_decode.specs.Parts.{Usable}
+use Rattle.xcf_window.specs.Window.{tile}
+use Rattle.xcf_decode.specs.Answer.{refusal, pointersRefusal, drawableRefusal, nonzero, marksOf, counted, counting}
+use Rattle.xcf_window.specs.Usable.{rowRefusal}
+use Rattle.xcf_window.specs.Parts.{Usable}
 use Rattle.xcf_decode.proofs.Marked.{nonzero-below}
 use Rattle.xcf_decode.proofs.Usable.{row-usable}
 use Rattle.xcf_listing.specs.Listing.{markedTiles}

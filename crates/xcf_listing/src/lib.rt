@@ -1,14 +1,13 @@
 // The listing of an XCF file as text.
-mod line;
 pub mod print;
-mod text;
+mod rows;
 
 ghost use mathlib.Core.Path.{_≡_};
 ghost use Rattle.io.specs.Counts.{Counts};
 ghost use Rattle.xcf_listing.specs.Listing.{Lists};
-use crate::line::put_canvas;
-use crate::line::put_refusal;
-use crate::line::put_rows;
+use crate::rows::put_rows;
+use xcf_line::put_canvas;
+use xcf_line::put_refusal;
 
 // Room for every listing.
 pub const TEXT_SIZE: usize = 65536;

@@ -11,13 +11,13 @@ use Rattle.xcf_walk.specs.declared.cursor.Cursor.{Cursor}
 use Rattle.xcf_walk.specs.Walk.{Outcome, got}
 use Rattle.xcf_walk.specs.Cursor.{outcome, resume, Leads}
 use Rattle.xcf_walk.proofs.Resume.{is-live, is-refused}
-use Rattle.xcf_table.specs.Table.{tableSize, clearFrom, rowsIn}
+use Rattle.xcf_table.specs.Table.{tableSize, clearFrom, rowsIn, fileLimit}
 use Rattle.xcf_table.proofs.Puts.{cleared-table}
-use Rattle.xcf_read.specs.declared.image.Head.{Head}
-use Rattle.xcf_read.specs.Hierarchy.{pointerSize}
+use Rattle.xcf_parse.specs.declared.image.Head.{Head}
+use Rattle.xcf_parse.specs.Hierarchy.{pointerSize}
 use Rattle.xcf_read.specs.Image.{Image, image}
-use Rattle.xcf_read.specs.Answer.{fileLimit, refusal, readingOf, reading, Read}
-use Rattle.xcf_read.specs.Parts.{fileStart}
+use Rattle.xcf_read.specs.Answer.{refusal, readingOf, reading, Read}
+use Rattle.xcf_parse.specs.Parts.{fileStart}
 
 module _ {f old : List ℕ} {end : Cursor} {h : Head} {k : ℕ} (t : List ℕ) (size : length old ≡ tableSize) (small : length f ≤ fileLimit)
     (l : Leads fileStart (image pointerSize) f end (record { head = h; rows = rowsIn k t })) where

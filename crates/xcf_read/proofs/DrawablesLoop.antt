@@ -11,15 +11,16 @@ use borrow.Author.Tests.{le-leb, eqb-true}
 use lib.Dec.{eqb}
 use lib.ListN.{length}
 use Rattle.xcf_walk.specs.declared.cursor.Cursor.{Cursor}
-use Rattle.xcf_walk.specs.Walk.{got, refused, part, run, bytes, jump}
-use Rattle.xcf_walk.specs.Fields.{bigEndian, number, word}
+use Rattle.xcf_walk.specs.Walk.{got, refused, run, bytes, jump}
+use Rattle.xcf_store.specs.Word.{part, bigEndian}
+use Rattle.xcf_walk.specs.Fields.{number, word}
 use Rattle.xcf_walk.specs.Cursor.{jumped, outcome, resume, Leads}
 use Rattle.xcf_walk.proofs.Walks.{got-not-refused}
 use Rattle.xcf_walk.proofs.Resume.{then, ends, by-jump, is-live, live-same}
 use Rattle.xcf_walk.proofs.Within.{live-before, word-within}
 use Rattle.xcf_table.specs.Table.{Rows, rowsIn}
-use Rattle.xcf_read.specs.declared.drawable.Canvas.{Canvas}
-use Rattle.xcf_read.specs.Hierarchy.{pointerSize}
+use Rattle.xcf_table.specs.declared.canvas.Canvas.{Canvas}
+use Rattle.xcf_parse.specs.Hierarchy.{pointerSize}
 use Rattle.xcf_read.specs.Image.{drawables}
 use Rattle.xcf_read.specs.Parts.{drawable, Filled, rowsMost, wordsAt}
 

@@ -1,12 +1,3 @@
-pub mod Same
-pub mod Places
-pub mod Pointers
-pub mod Tiles
 pub mod PointersLoop
 pub mod DrawablesLoop
 pub mod Decided
-pub mod Numbers
-pub mod Accepted
-pub mod ReadDepends
-pub mod Ranges
-pub mod AcceptedRows

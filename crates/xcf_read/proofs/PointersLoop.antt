@@ -13,15 +13,15 @@ use borrow.Author.Tests.{ltb-true, lt-ltb, eqb-true, eqb-false, eq-eqb, ne-eqb}
 use lib.Dec.{ltb, eqb}
 use lib.ListN.{length}
 use Rattle.xcf_walk.specs.declared.cursor.Cursor.{Cursor}
-use Rattle.xcf_walk.specs.Walk.{part}
-use Rattle.xcf_walk.specs.Fields.{bigEndian, word}
+use Rattle.xcf_store.specs.Word.{part, bigEndian}
+use Rattle.xcf_walk.specs.Fields.{word}
 use Rattle.xcf_walk.specs.Cursor.{checked, Leads, Reads}
 use Rattle.xcf_walk.proofs.Resume.{then, then-here, ends, by-check}
 use Rattle.xcf_walk.proofs.Within.{word-within, check-keeps, check-live}
-use Rattle.xcf_read.specs.Hierarchy.{pointerSize}
+use Rattle.xcf_parse.specs.Hierarchy.{pointerSize}
 use Rattle.xcf_read.specs.Image.{pointers}
 use Rattle.xcf_read.specs.Parts.{wordsAt, Another, PointerRead}
-use Rattle.xcf_read.proofs.Pointers.{read-is-live}
+use Rattle.xcf_parse.proofs.Pointers.{read-is-live}
 
 module _ {c d : Cursor} {f : List ℕ} {v : ℕ} (r : Reads c word f 0 d v) where
   none-left : {next : Cursor} {test : Bool} → test ≡ eqb v 0 → next ≡ checked d test 8 (c .at) → Leads c (pointers pointerSize 0) f next []

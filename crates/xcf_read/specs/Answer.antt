@@ -6,13 +6,11 @@ use mathlib.Core.Bool.{Bool, false, cond, _||_}
 use lib.ListN.{length}
 use lib.Dec.{leb, eqb}
 use Rattle.xcf_walk.specs.Walk.{Outcome, got, refused, run}
-use Rattle.xcf_table.specs.Table.{tableSize, noRows, tableOf}
+use Rattle.xcf_table.specs.Table.{tableSize, noRows, tableOf, fileLimit, rowAt}
 use Rattle.xcf_read.specs.declared.ReadAnswer.{ReadAnswer}
-use Rattle.xcf_read.specs.Hierarchy.{pointerSize}
+use Rattle.xcf_parse.specs.Hierarchy.{pointerSize}
 use Rattle.xcf_read.specs.Image.{Image, image}
-
-abbrev pub fileLimit : ℕ
-fileLimit = 1073741824
+use Rattle.xcf_table.specs.declared.Row.{Row}
 
 abbrev pub refusal : ℕ → ℕ → ReadAnswer
 refusal n p = record { number = n; place = p; width = 0; height = 0; base = 0; version = 0; compression = 0; rows = 0 }
@@ -58,3 +56,7 @@ listed (m ∷ ms) n = eqb n m || listed ms n
 pub record Read (file old : List ℕ) (r : ReadAnswer) (new : List ℕ) : Type 0 where
   pub answer : r ≡ reading file old .answer
   pub table : new ≡ reading file old .table
+
+-- row k of the table that the reader gave
+abbrev pub rowOf : Reading → ℕ → Row
+rowOf x k = rowAt (x .table) k

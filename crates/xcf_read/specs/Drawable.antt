@@ -1,81 +1,20 @@
 -- A layer, a mask and a channel, each with its hierarchy: their rows.
-use Prim.Native.Nat.{ℕ, _+_, _/_}
-use mathlib.Core.List.{List, [], _∷_}
-use mathlib.Core.Bool.{Bool, cond, _&&_}
-use lib.ListN.{getD}
-use lib.Dec.{leb, eqb}
-use Rattle.xcf_walk.specs.Walk.{Walk, done, here, jump, must, _>>=_, _>>_}
-use Rattle.xcf_walk.specs.Fields.{number, word, string}
-use Rattle.xcf_walk.specs.Property.{layerList, properties}
-use Rattle.xcf_walk.specs.declared.property.Properties.{Properties}
+use Prim.Native.Nat.{ℕ, _+_}
+use mathlib.Core.Bool.{cond}
+use lib.Dec.{eqb}
+use Rattle.xcf_walk.specs.Walk.{Walk, done, jump, _>>=_, _>>_}
+use Rattle.xcf_walk.specs.Property.{properties}
+use Rattle.xcf_property.specs.declared.Properties.{Properties}
 use Rattle.xcf_table.specs.declared.Row.{Row}
 use Rattle.xcf_table.specs.Table.{Rows, addRow}
-use Rattle.xcf_tile.specs.Grid.{tileCount}
-use Rattle.xcf_read.specs.declared.drawable.Canvas.{Canvas}
-use Rattle.xcf_read.specs.declared.drawable.Fields.{Fields}
-use Rattle.xcf_read.specs.declared.drawable.Layer.{Layer}
-use Rattle.xcf_read.specs.declared.drawable.Owner.{Owner}
-use Rattle.xcf_read.specs.Hierarchy.{pointer, hierarchy}
-
-unfoldable pub sideOk : ℕ → Bool
-sideOk n = leb 1 n && leb n 16384
-
-unfoldable pub side : Walk ℕ
-side = do
-  at ← here
-  n ← word
-  must (sideOk n) 4 at
-  done n
-
--- a side that has to be its owner's
-unfoldable pub sideLike : ℕ → Walk (Unit {0})
-sideLike v = do
-  at ← here
-  n ← side
-  must (eqb n v) 10 at
-
--- types 0 to 5: half the type is the base type
-unfoldable pub typeOk : ℕ → ℕ → Bool
-typeOk base t = leb t 5 && eqb (t / 2) base
-
-unfoldable pub layerType : ℕ → Walk ℕ
-layerType base = do
-  at ← here
-  t ← word
-  must (typeOk base t) 10 at
-  done t
-
--- bytes per pixel by type
-abbrev pub depths : List ℕ
-depths = 3 ∷ 4 ∷ 1 ∷ 2 ∷ 1 ∷ 2 ∷ []
-
-unfoldable pub depthOf : ℕ → ℕ
-depthOf t = getD depths t 0
-
--- string, properties and hierarchy pointer, as every drawable has them
-unfoldable pub fields : ℕ → ℕ → Walk Fields
-fields size kind = do
-  name ← string
-  list ← here
-  p ← properties kind 0
-  h ← pointer size
-  done (record { name = name; list = list; properties = p; hierarchy = h })
-
-unfoldable pub layer : ℕ → ℕ → Walk Layer
-layer size base = do
-  width ← side
-  height ← side
-  form ← layerType base
-  x ← fields size layerList
-  mask ← number size
-  done (record { width = width; height = height; form = form; fields = x; mask = mask })
-
--- a mask or channel
-unfoldable pub channel : ℕ → Owner → Walk Fields
-channel size o = do
-  sideLike (o .width)
-  sideLike (o .height)
-  fields size (o .kind)
+use Rattle.xcf_grid.specs.Grid.{tileCount}
+use Rattle.xcf_table.specs.declared.canvas.Canvas.{Canvas}
+use Rattle.xcf_parse.specs.declared.drawable.Fields.{Fields}
+use Rattle.xcf_parse.specs.declared.drawable.Layer.{Layer}
+use Rattle.xcf_parse.specs.declared.drawable.Owner.{Owner}
+use Rattle.xcf_parse.specs.Hierarchy.{hierarchy}
+use Rattle.xcf_table.specs.Canvas.{depthOf}
+use Rattle.xcf_parse.specs.Drawable.{fields, layer, channel}
 
 -- 1 visible, 2 apply mask, 4 selection, 8 active, 16 group
 unfoldable pub flag : ℕ → ℕ → ℕ

@@ -1,38 +1,16 @@
 -- The image, and all that it points to.
 use Prim.Native.Nat.{ℕ, zero, suc}
 use mathlib.Core.List.{List, [], _∷_}
-use mathlib.Core.Bool.{Bool, cond, not, _&&_}
-use lib.Dec.{leb, eqb}
+use mathlib.Core.Bool.{cond}
+use lib.Dec.{eqb}
 use Rattle.xcf_walk.specs.Walk.{Walk, done, here, jump, must, PassedOver, _>>=_, _>>_}
-use Rattle.xcf_walk.specs.Fields.{number, word}
-use Rattle.xcf_walk.specs.Property.{imageList, properties}
+use Rattle.xcf_walk.specs.Fields.{number}
 use Rattle.xcf_table.specs.Table.{Rows, noRows}
-use Rattle.xcf_read.specs.declared.drawable.Canvas.{Canvas}
-use Rattle.xcf_read.specs.declared.image.Head.{Head}
-use Rattle.xcf_read.specs.Header.{header}
-use Rattle.xcf_read.specs.Hierarchy.{pointerSize}
-use Rattle.xcf_read.specs.Drawable.{side, layerRows, canvasChannelRows}
-
--- 0, 1, or from version 1 on 2
-unfoldable pub baseOk : ℕ → ℕ → Bool
-baseOk version base = leb base 2 && not (eqb version 0 && eqb base 2)
-
-unfoldable pub baseType : ℕ → Walk ℕ
-baseType version = do
-  at ← here
-  base ← word
-  must (baseOk version base) 5 at
-  done base
-
--- what stands before the pointers
-unfoldable pub head : Walk Head
-head = do
-  version ← header
-  width ← side
-  height ← side
-  base ← baseType version
-  p ← properties imageList (cond (eqb base 2) 1 0)
-  done (record { version = version; width = width; height = height; base = base; compression = p .compression })
+use Rattle.xcf_table.specs.declared.canvas.Canvas.{Canvas}
+use Rattle.xcf_parse.specs.declared.image.Head.{Head}
+use Rattle.xcf_parse.specs.Hierarchy.{pointerSize}
+use Rattle.xcf_read.specs.Drawable.{layerRows, canvasChannelRows}
+use Rattle.xcf_parse.specs.Image.{head}
 
 -- pointers closed by 0, at most so many; one more is refused at its place
 unfoldable pub pointers : ℕ → ℕ → Walk (List ℕ)

@@ -1,6 +1,4 @@
-pub mod Header
-pub mod Hierarchy
+pub mod Answer
 pub mod Drawable
 pub mod Image
-pub mod Answer
 pub mod Parts

@@ -1,48 +1,25 @@
 -- Parts of private contracts.
-use Prim.Native.Nat.{ℕ, zero, suc, _+_, _-_, _*_, _≤_, _<_}
+use Prim.Native.Nat.{ℕ, zero, suc, _+_, _*_, _≤_}
 use mathlib.Core.Path.{_≡_}
 use mathlib.Core.List.{List, [], _∷_}
 use mathlib.Core.Bool.{Bool, true, false, cond}
 use lib.ListN.{length}
 use lib.Dec.{eqb}
 use Rattle.xcf_walk.specs.declared.cursor.Cursor.{Cursor}
-use Rattle.xcf_walk.specs.Walk.{Walk, part}
-use Rattle.xcf_walk.specs.Fields.{bigEndian, word}
-use Rattle.xcf_walk.specs.Rising.{rises}
+use Rattle.xcf_walk.specs.Walk.{Walk}
+use Rattle.xcf_store.specs.Word.{part, bigEndian}
+use Rattle.xcf_walk.specs.Fields.{word}
 use Rattle.xcf_walk.specs.Cursor.{Leads}
 use Rattle.xcf_table.specs.Table.{Rows, rowsIn}
-use Rattle.xcf_read.specs.declared.drawable.Canvas.{Canvas}
-use Rattle.xcf_read.specs.declared.drawable.Fields.{Fields}
-use Rattle.xcf_read.specs.declared.drawable.Layer.{Layer}
-use Rattle.xcf_read.specs.Hierarchy.{pointerSize, tiles}
+use Rattle.xcf_table.specs.declared.canvas.Canvas.{Canvas}
+use Rattle.xcf_parse.specs.Hierarchy.{pointerSize}
 use Rattle.xcf_read.specs.Drawable.{layerRows, canvasChannelRows}
 use Rattle.xcf_read.specs.Image.{pointers}
-
-abbrev pub fileStart : Cursor
-fileStart = record { at = 0; number = 0 }
-
--- the places of a drawable's fields are at most n, beside a refusal too
-pub record FieldsLow (x : Fields) (n : ℕ) : Type 0 where
-  pub name : x .name .place ≤ n
-  pub size : x .name .length ≤ n
-  pub list : x .list ≤ n
-
-pub record LayerLow (x : Layer) (n : ℕ) : Type 0 where
-  pub width : x .width ≤ 16384
-  pub height : x .height ≤ 16384
-  pub fields : FieldsLow (x .fields) n
 
 -- the walk w leads from c to d, and its rows are the first k of the table, which keeps its length
 pub record Filled (c : Cursor) (w : Walk Rows) (f old : List ℕ) (d : Cursor) (k : ℕ) (new : List ℕ) : Type 0 where
   pub leads : Leads c w f d (rowsIn k new)
   pub size : length new ≡ length old
-
--- of n tiles count pointers are right, the last of them before next: where what is left leads, the whole leads; and where the
--- cursor is live and pointers are left, the next one is not right
-pub record TilesLeft (f : List ℕ) (c : Cursor) (n : ℕ) (next : Cursor) (last count : ℕ) : Type 0 where
-  pub few : count ≤ n
-  pub whole : {d : Cursor} → Leads next (tiles pointerSize (n - count) last) f d tt → Leads c (tiles pointerSize n 0) f d tt
-  pub stops : next .number ≡ 0 → count < n → rises f (next .at) last ≡ false
 
 -- the drawable of a kind: 1 a layer, with its mask, or 3 a channel
 unfoldable pub drawable : ℕ → ℕ → Canvas → Rows → Walk Rows

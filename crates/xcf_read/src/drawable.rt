@@ -2,185 +2,30 @@
 ghost use mathlib.Core.Path.{_≡_};
 ghost use Prim.Native.Nat.{_+_, _*_, _≤_, _<_};
 ghost use lib.ListN.{length};
-ghost use Rattle.xcf_walk.specs.Cursor.{Leads};
-ghost use Rattle.xcf_table.specs.Table.{rowSize, tableSize, rowsIn};
-ghost use Rattle.xcf_read.specs.Hierarchy.{pointerSize};
-ghost use Rattle.xcf_read.specs.Drawable.{sideOk, side, sideLike, typeOk, layerType, depthOf, fields, layer, channel, flag, layerFlags, channelFlags, layerRow, channelRow, maskOwner, channelOwner, channelRows, maskRows, layerRows};
-ghost use Rattle.xcf_read.specs.Answer.{fileLimit};
-ghost use Rattle.xcf_read.specs.Parts.{drawable, FieldsLow, LayerLow, Filled, rowsMost};
-use crate::hierarchy::hierarchy;
-use crate::hierarchy::pointer;
+ghost use Rattle.xcf_table.specs.Table.{rowSize, tableSize, rowsIn, fileLimit};
+ghost use Rattle.xcf_parse.specs.Hierarchy.{pointerSize};
+ghost use Rattle.xcf_parse.specs.Drawable.{fields, layer};
+ghost use Rattle.xcf_read.specs.Drawable.{flag, layerFlags, channelFlags, layerRow, channelRow, maskOwner, channelOwner, channelRows, maskRows, layerRows};
+ghost use Rattle.xcf_read.specs.Parts.{drawable, Filled, rowsMost};
+ghost use Rattle.xcf_parse.specs.Parts.{FieldsLow, LayerLow};
+use xcf_grid::tile_count;
+use xcf_parse::drawable::Fields;
+use xcf_parse::drawable::Layer;
+use xcf_parse::drawable::Owner;
+use xcf_parse::drawable::read_channel;
+use xcf_parse::drawable::read_layer;
+use xcf_parse::hierarchy::hierarchy;
+use xcf_property::Properties;
 use xcf_table::Row;
+use xcf_table::canvas::Canvas;
+use xcf_table::canvas::depth_of;
 use xcf_table::put_row;
-use xcf_tile::grid::tile_count;
 use xcf_walk::cursor::Cursor;
-use xcf_walk::cursor::Name;
-use xcf_walk::cursor::WordRead;
-use xcf_walk::property::Properties;
-
-pub struct Canvas {
-    pub width: u32,
-    pub height: u32,
-    pub base: u32,
-}
-
-// What every drawable has behind its sides and type; list is the place of its properties.
-pub struct Fields {
-    pub name: Name,
-    pub list: usize,
-    pub properties: Properties,
-    pub hierarchy: u32,
-}
-
-pub struct FieldsRead {
-    pub fields: Fields,
-    pub cursor: Cursor,
-}
-
-pub struct Layer {
-    pub width: u32,
-    pub height: u32,
-    pub form: u32,
-    pub fields: Fields,
-    pub mask: u32,
-}
-
-pub struct LayerRead {
-    pub layer: Layer,
-    pub cursor: Cursor,
-}
-
-// What a mask or channel has from its layer or the canvas, and the row that owns it.
-pub struct Owner {
-    pub kind: u32,
-    pub width: u32,
-    pub height: u32,
-    pub dx: u32,
-    pub dy: u32,
-    pub row: u32,
-}
 
 // How many rows the table holds.
 pub struct RowsRead {
     pub rows: u32,
     pub cursor: Cursor,
-}
-
-pub fn side_ok(n: u32) -> bool
-    ensures { λ r. ⌜ r ≡ sideOk n ⌝ }
-{
-    if 1 <= n { n <= 16384 } else { false }
-}
-
-// Beside a refusal the side is 0.
-pub(crate) fn side(cursor: Cursor, file: &[u8]) -> WordRead
-    ensures { λ r. ⌜ Leads cursor side (now (file .entry)) (r .cursor) (r .value) ⌝ }
-    ensures { λ r. ⌜ r .value ≤ 16384 ⌝ }
-{
-    let n = cursor.word(file);
-    let next = n.cursor.check(side_ok(n.value), 4, cursor.at);
-    if next.number != 0 {
-        return WordRead {
-            value: 0,
-            cursor: next,
-        };
-    }
-    WordRead {
-        value: n.value,
-        cursor: next,
-    }
-}
-
-// A side that has to be its owner's.
-fn side_like(cursor: Cursor, file: &[u8], v: u32) -> Cursor
-    ensures { λ r. ⌜ Leads cursor (sideLike v) (now (file .entry)) r tt ⌝ }
-{
-    let n = side(cursor, file);
-    n.cursor.check(n.value == v, 10, cursor.at)
-}
-
-pub fn type_ok(base: u32, t: u32) -> bool
-    ensures { λ r. ⌜ r ≡ typeOk base t ⌝ }
-{
-    if t <= 5 { t / 2 == base } else { false }
-}
-
-fn layer_type(cursor: Cursor, file: &[u8], base: u32) -> WordRead
-    ensures { λ r. ⌜ Leads cursor (layerType base) (now (file .entry)) (r .cursor) (r .value) ⌝ }
-{
-    let t = cursor.word(file);
-    let next = t.cursor.check(type_ok(base, t.value), 10, cursor.at);
-    WordRead {
-        value: t.value,
-        cursor: next,
-    }
-}
-
-const DEPTHS: [u32; 6] = [3, 4, 1, 2, 1, 2];
-
-pub fn depth_of(t: u32) -> u32
-    ensures { λ r. ⌜ r ≡ depthOf t ⌝ }
-{
-    if t < 6 {
-        let i = t as usize;
-        DEPTHS[i]
-    } else {
-        0
-    }
-}
-
-fn read_fields(cursor: Cursor, file: &[u8], kind: u32) -> FieldsRead
-    ensures { λ r. ⌜ Leads cursor (fields pointerSize kind) (now (file .entry)) (r .cursor) (r .fields) ⌝ }
-    ensures { λ r. ⌜ FieldsLow (r .fields) (length (now (file .entry))) ⌝ }
-{
-    let name = cursor.string(file);
-    let list = name.cursor.place();
-    let p = name.cursor.properties(file, kind, 0);
-    let h = pointer(p.cursor, file);
-    let next = h.cursor;
-    let named = name.name;
-    let properties = p.properties;
-    FieldsRead {
-        fields: Fields {
-            name: named,
-            list,
-            properties,
-            hierarchy: h.value,
-        },
-        cursor: next,
-    }
-}
-
-fn read_layer(cursor: Cursor, file: &[u8], base: u32) -> LayerRead
-    ensures { λ r. ⌜ Leads cursor (layer pointerSize base) (now (file .entry)) (r .cursor) (r .layer) ⌝ }
-    ensures { λ r. ⌜ LayerLow (r .layer) (length (now (file .entry))) ⌝ }
-{
-    let width = side(cursor, file);
-    let height = side(width.cursor, file);
-    let form = layer_type(height.cursor, file, base);
-    let x = read_fields(form.cursor, file, 1);
-    let mask = x.cursor.word(file);
-    let next = mask.cursor;
-    let own = x.fields;
-    LayerRead {
-        layer: Layer {
-            width: width.value,
-            height: height.value,
-            form: form.value,
-            fields: own,
-            mask: mask.value,
-        },
-        cursor: next,
-    }
-}
-
-fn read_channel(cursor: Cursor, file: &[u8], o: Owner) -> FieldsRead
-    ensures { λ r. ⌜ Leads cursor (channel pointerSize o) (now (file .entry)) (r .cursor) (r .fields) ⌝ }
-    ensures { λ r. ⌜ FieldsLow (r .fields) (length (now (file .entry))) ⌝ }
-{
-    let first = side_like(cursor, file, o.width);
-    let second = side_like(first, file, o.height);
-    read_fields(second, file, o.kind)
 }
 
 fn flag(v: u32, bit: u32) -> u32

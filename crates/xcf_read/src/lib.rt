@@ -1,16 +1,13 @@
 // The reader: a file's structures, checked rule by rule, as rows of a lent table.
-pub mod drawable;
-pub mod header;
-pub mod hierarchy;
+mod drawable;
 mod image;
 
 ghost use mathlib.Core.Path.{_≡_};
 ghost use Rattle.xcf_read.specs.Answer.{refusal, Read};
 use crate::image::image;
+use xcf_table::FILE_LIMIT;
 use xcf_table::TABLE_SIZE;
 use xcf_table::clear_from;
-
-pub const FILE_LIMIT: usize = 1073741824;
 
 // What acceptance gives; a refusal's other fields are 0.
 #[repr(C)]

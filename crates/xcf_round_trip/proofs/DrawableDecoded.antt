@@ -8,12 +8,13 @@ use mathlib.Core.Bool.{true}
 use borrow.Author.Tests.{le-leb, eq-eqb}
 use lib.ListN.{length, replicate}
 use Rattle.xcf_table.specs.Table.{tableSize, rowAt}
-use Rattle.xcf_tile.proofs.Sizes.{bounds-within}
-use Rattle.xcf_read.specs.Hierarchy.{pointerSize}
-use Rattle.xcf_decode.specs.Answer.{inRange, inFile, usableRow, fits, refusal, rowRefusal, drawableRefusal, decoding}
-use Rattle.xcf_decode.proofs.TilePointers.{tiles-inside}
-use Rattle.xcf_write.specs.File.{Drawable, drawableBytes}
-use Rattle.xcf_write.specs.Parts.{Writable}
+use Rattle.xcf_range.proofs.Bounds.{bounds-within}
+use Rattle.xcf_parse.specs.Hierarchy.{pointerSize}
+use Rattle.xcf_window.specs.Usable.{inRange, inFile, usableRow, fits, rowRefusal}
+use Rattle.xcf_decode.specs.Answer.{refusal, drawableRefusal, decoding}
+use Rattle.xcf_window.proofs.TilePointers.{tiles-inside}
+use Rattle.xcf_drawable.specs.Drawable.{Drawable, drawableBytes}
+use Rattle.xcf_drawable.specs.Parts.{Writable}
 use Rattle.xcf_round_trip.proofs.Parts.{Stands, readRow}
 use Rattle.xcf_round_trip.proofs.TilesDecoded.{row-decoding}
 use Rattle.xcf_round_trip.proofs.PointersStand.{pointed, walked}

@@ -10,20 +10,21 @@ use native.Mathlib.Omega.{arith}
 use borrow.Author.Tests.{ne-eqb, eq-eqb}
 use lib.Dec.{eqb}
 use lib.ListN.{length}
-use Rattle.xcf_walk.specs.Walk.{part}
+use Rattle.xcf_store.specs.Word.{part}
 use Rattle.xcf_table.specs.declared.Row.{Row}
 use Rattle.xcf_table.specs.Table.{Rows, addRow}
-use Rattle.xcf_tile.proofs.Cases.{by-cases}
-use Rattle.xcf_read.specs.declared.drawable.Canvas.{Canvas}
-use Rattle.xcf_read.specs.declared.drawable.Layer.{Layer}
-use Rattle.xcf_read.specs.Hierarchy.{hierarchy}
-use Rattle.xcf_read.specs.Drawable.{depthOf, flag, layerFlags, channelFlags, layerRow, channelRow, maskOwner, channelOwner, channelRows, maskRows, layerRows, canvasChannelRows}
+use Rattle.xcf_laws.proofs.Cases.{by-cases}
+use Rattle.xcf_table.specs.declared.canvas.Canvas.{Canvas}
+use Rattle.xcf_parse.specs.declared.drawable.Layer.{Layer}
+use Rattle.xcf_parse.specs.Hierarchy.{hierarchy}
+use Rattle.xcf_table.specs.Canvas.{depthOf}
+use Rattle.xcf_read.specs.Drawable.{flag, layerFlags, channelFlags, layerRow, channelRow, maskOwner, channelOwner, channelRows, maskRows, layerRows, canvasChannelRows}
 use Rattle.xcf_usable.specs.Usable.{visible, apply, selection, active}
 use Rattle.xcf_usable.proofs.RowFacts.{LayerFacts, ChannelFacts, MaskFacts, CanvasFacts}
-use Rattle.xcf_write.specs.Structure.{structureBytes}
-use Rattle.xcf_write.specs.File.{Drawable, tilesOf, joined, drawableSize, drawableBytes}
-use Rattle.xcf_write.specs.Parts.{Writable}
-use Rattle.xcf_write.proofs.DrawableLength.{tiles-counted, starts-length, hierarchyAt, levelAt, tilesAt, maskAt, structureOf, hierarchyOf, levelOf, structure-size, hierarchy-size, level-size, drawable-length}
+use Rattle.xcf_structure.specs.Structure.{structureBytes}
+use Rattle.xcf_drawable.specs.Drawable.{Drawable, tilesOf, joined, drawableSize, drawableBytes}
+use Rattle.xcf_drawable.specs.Parts.{Writable}
+use Rattle.xcf_drawable.proofs.DrawableLength.{tiles-counted, starts-length, hierarchyAt, levelAt, tilesAt, maskAt, structureOf, hierarchyOf, levelOf, structure-size, hierarchy-size, level-size, drawable-length}
 use Rattle.xcf_round_trip.proofs.Parts.{Stands, Gives, propertiesOf, sidesSize, readRow}
 use Rattle.xcf_round_trip.proofs.Stands.{stands-front, stands-behind}
 use Rattle.xcf_round_trip.proofs.Steps.{reads-gives, gives-reads, then, ends, ends-as, reads-jump}

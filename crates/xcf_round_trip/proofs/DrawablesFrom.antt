@@ -13,23 +13,24 @@ use borrow.Author.Tests.{eqb-true, eqb-false, ne-eqb, lt-ltb, lt-leb}
 use lib.Dec.{eqb}
 use lib.ListN.{length, getD, drop, length-append}
 use lib.Seq.{drop-drop}
-use Rattle.xcf_walk.proofs.Cases.{below-or}
-use Rattle.xcf_walk.proofs.Parts.{part-length}
+use Rattle.xcf_laws.proofs.Cases.{below-or, by-cases}
+use Rattle.xcf_store.proofs.Parts.{part-length}
 use Rattle.xcf_table.specs.declared.Row.{Row}
 use Rattle.xcf_table.specs.Table.{rowSize, tableSize, rowAt}
 use Rattle.xcf_table.proofs.Rows.{row-there}
-use Rattle.xcf_tile.proofs.Cases.{by-cases}
-use Rattle.xcf_read.specs.declared.drawable.Canvas.{Canvas}
+use Rattle.xcf_table.specs.declared.canvas.Canvas.{Canvas}
 use Rattle.xcf_usable.specs.Usable.{tableRows, isUnused, before, masked, usable}
 use Rattle.xcf_usable.proofs.AllUsable.{all-usable}
 use Rattle.xcf_usable.proofs.RowFacts.{LayerFacts, ChannelFacts, MaskFacts, CanvasFacts, kind-listed, layer-facts, channel-facts, canvas-facts}
 use Rattle.xcf_usable.proofs.Counts.{before-next}
 use Rattle.xcf_usable.proofs.Order.{first-not-mask, mask-behind, after-channel, few-layers, few-channels}
-use Rattle.xcf_write.specs.File.{Drawable, placesOf, usedFrom, pixelSize, pixelsSize, drawablesFrom}
-use Rattle.xcf_write.specs.Answer.{usedRows}
-use Rattle.xcf_write.specs.Parts.{kindPlaces}
-use Rattle.xcf_write.proofs.RowsLoop.{one-when}
-use Rattle.xcf_write.proofs.Drawables.{rowDrawn, row-writable}
+use Rattle.xcf_drawable.specs.Drawable.{Drawable}
+use Rattle.xcf_write.specs.File.{placesOf}
+use Rattle.xcf_rows.specs.Rows.{usedFrom, pixelsSize, drawablesFrom, usedRows}
+use Rattle.xcf_grid.specs.Drawn.{pixelSize}
+use Rattle.xcf_image.specs.Parts.{kindPlaces}
+use Rattle.xcf_image.proofs.RowsLoop.{one-when}
+use Rattle.xcf_rows.proofs.Drawables.{rowDrawn, row-writable}
 use Rattle.xcf_write.proofs.RowsUsed.{used-most, used-kind, used-facts, ready}
 use Rattle.xcf_write.proofs.FileLaws.{places-count, rows-length}
 use Rattle.xcf_write.proofs.Accepted.{InputAccepted}

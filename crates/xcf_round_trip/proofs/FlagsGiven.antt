@@ -7,7 +7,7 @@ use mathlib.Core.Bool.{Bool, true, false, cond}
 use native.Mathlib.Omega.{arith}
 use borrow.Author.Tests.{eq-eqb}
 use lib.Dec.{eqb}
-use Rattle.xcf_walk.specs.declared.property.Properties.{Properties}
+use Rattle.xcf_property.specs.declared.Properties.{Properties}
 use Rattle.xcf_read.specs.Drawable.{flag, layerFlags, channelFlags}
 
 -- a sum of flags is the sum of its bits

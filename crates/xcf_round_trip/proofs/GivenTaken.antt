@@ -7,15 +7,15 @@ use mathlib.Core.List.{List}
 use mathlib.Core.Logic.{⊎-elim}
 use native.Mathlib.Omega.{arith}
 use Rattle.xcf_walk.specs.Walk.{got, run}
-use Rattle.xcf_walk.proofs.Cases.{below-or}
+use Rattle.xcf_laws.proofs.Cases.{below-or}
 use Rattle.xcf_table.specs.declared.Row.{Row}
 use Rattle.xcf_table.specs.Table.{rowAt, tableOf}
-use Rattle.xcf_read.specs.Hierarchy.{pointerSize}
+use Rattle.xcf_parse.specs.Hierarchy.{pointerSize}
 use Rattle.xcf_read.specs.Image.{Image, canvasOf, image}
 use Rattle.xcf_read.specs.Answer.{Reading, readingOf, reading}
 use Rattle.xcf_table.proofs.Tables.{table-row, table-unused}
-use Rattle.xcf_read.proofs.Accepted.{accepted-sized, read-walked, accepted-exactly}
-use Rattle.xcf_read.proofs.AcceptedRows.{accepted-rows}
+use Rattle.xcf_read_laws.proofs.Accepted.{accepted-sized, read-walked, accepted-exactly}
+use Rattle.xcf_read_laws.proofs.AcceptedRows.{accepted-rows}
 use Rattle.xcf_usable.specs.Usable.{tableRows, badRow}
 use Rattle.xcf_round_trip.specs.Taken.{RowExcepted, RowsExcepted, GivenIsTaken}
 use Rattle.xcf_round_trip.proofs.RowGiven.{Like}

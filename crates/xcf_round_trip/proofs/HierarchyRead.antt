@@ -11,9 +11,10 @@ use lib.ListN.{length}
 use Rattle.xcf_walk.specs.Walk.{turns, loop}
 use Rattle.xcf_walk.specs.Fields.{word}
 use Rattle.xcf_table.specs.declared.Row.{Row}
-use Rattle.xcf_tile.specs.Grid.{tileCount}
-use Rattle.xcf_read.specs.Hierarchy.{agrees, pointer, restTurn, rest, tiles, hierarchy}
-use Rattle.xcf_write.specs.Structure.{words, hierarchyBytes, levelBytes}
+use Rattle.xcf_grid.specs.Grid.{tileCount}
+use Rattle.xcf_parse.specs.Hierarchy.{agrees, pointer, restTurn, rest, tiles, hierarchy}
+use Rattle.xcf_store.specs.Word.{words}
+use Rattle.xcf_structure.specs.Structure.{hierarchyBytes, levelBytes}
 use Rattle.xcf_round_trip.proofs.Parts.{Stands, Gives, Rises}
 use Rattle.xcf_round_trip.proofs.Steps.{Reads, reads-gives, gives-reads, then, then-here, then-length, ends, reads-must, reads-jump}
 use Rattle.xcf_round_trip.proofs.WordsRead.{words-rest, reads-number}

@@ -14,17 +14,22 @@ use lib.ListN.{length, getD}
 use lib.Seq.{take-length}
 use Rattle.xcf_walk.specs.Fields.{word}
 use Rattle.xcf_table.specs.Table.{noRows}
-use Rattle.xcf_tile.proofs.Sizes.{within-bounds}
-use Rattle.xcf_read.specs.declared.drawable.Canvas.{Canvas}
-use Rattle.xcf_read.specs.declared.image.Head.{Head}
-use Rattle.xcf_read.specs.Header.{same, magic, tags, versionIn, header}
-use Rattle.xcf_read.specs.Drawable.{sideOk}
-use Rattle.xcf_read.specs.Image.{baseOk, baseType, head, canvasOf, image}
-use Rattle.xcf_write.specs.Structure.{wordBytes, words, propertyBytes, listBytes, imageProperties}
-use Rattle.xcf_write.specs.File.{Drawable, drawableBytes, drawablesBytes, placesOf, versionOf, imageBytes, imageSize, fileBytes}
-use Rattle.xcf_write.specs.Answer.{usedRows, fileOf}
-use Rattle.xcf_write.proofs.Words.{words-length}
-use Rattle.xcf_write.proofs.ImageLength.{version-old-or-new, tag-length, image-length}
+use Rattle.xcf_range.proofs.Bounds.{within-bounds}
+use Rattle.xcf_table.specs.declared.canvas.Canvas.{Canvas}
+use Rattle.xcf_parse.specs.declared.image.Head.{Head}
+use Rattle.xcf_parse.specs.Header.{same, magic, tags, versionIn, header}
+use Rattle.xcf_table.specs.Canvas.{sideOk}
+use Rattle.xcf_parse.specs.Image.{baseOk, baseType, head}
+use Rattle.xcf_read.specs.Image.{canvasOf, image}
+use Rattle.xcf_store.specs.Word.{wordBytes, words}
+use Rattle.xcf_structure.specs.Structure.{propertyBytes, listBytes, imageProperties}
+use Rattle.xcf_drawable.specs.Drawable.{Drawable, drawableBytes}
+use Rattle.xcf_rows.specs.Rows.{drawablesBytes, usedRows}
+use Rattle.xcf_write.specs.File.{placesOf, versionOf, imageSize, fileBytes}
+use Rattle.xcf_image.specs.Image.{imageBytes}
+use Rattle.xcf_write.specs.Answer.{fileOf}
+use Rattle.xcf_store.proofs.Words.{words-length}
+use Rattle.xcf_image.proofs.ImageLength.{version-old-or-new, tag-length, image-length}
 use Rattle.xcf_write.proofs.FileLaws.{places-count, version-rows, rows-length}
 use Rattle.xcf_write.proofs.Accepted.{InputAccepted}
 use Rattle.xcf_round_trip.proofs.Parts.{Stands, Gives, Rises, addAll}

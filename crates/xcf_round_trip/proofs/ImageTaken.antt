@@ -10,15 +10,17 @@ use borrow.Author.Tests.{eqb-true}
 use lib.Dec.{eqb}
 use lib.ListN.{length}
 use Rattle.xcf_walk.specs.Walk.{Walk, jump}
-use Rattle.xcf_walk.proofs.Ensures.{Ensures, ensures-done, ensures-bind, ensures-next}
+use Rattle.xcf_walk_laws.proofs.Ensures.{Ensures, ensures-done, ensures-bind, ensures-next}
 use Rattle.xcf_table.specs.Table.{rowAt, Rows, noRows, addRow}
-use Rattle.xcf_tile.proofs.Cases.{by-cases}
-use Rattle.xcf_read.specs.declared.drawable.Canvas.{Canvas}
-use Rattle.xcf_read.specs.declared.drawable.Layer.{Layer}
-use Rattle.xcf_read.specs.Hierarchy.{pointerSize, hierarchy}
-use Rattle.xcf_read.specs.Drawable.{depthOf, layerRow, maskOwner, channelOwner, channelRows, maskRows, layerRows, canvasChannelRows}
-use Rattle.xcf_read.specs.Image.{head, drawables, Image, canvasOf, image}
-use Rattle.xcf_read.proofs.Ranges.{ensures-pointers}
+use Rattle.xcf_laws.proofs.Cases.{by-cases}
+use Rattle.xcf_table.specs.declared.canvas.Canvas.{Canvas}
+use Rattle.xcf_parse.specs.declared.drawable.Layer.{Layer}
+use Rattle.xcf_parse.specs.Hierarchy.{pointerSize, hierarchy}
+use Rattle.xcf_table.specs.Canvas.{depthOf}
+use Rattle.xcf_read.specs.Drawable.{layerRow, maskOwner, channelOwner, channelRows, maskRows, layerRows, canvasChannelRows}
+use Rattle.xcf_parse.specs.Image.{head}
+use Rattle.xcf_read.specs.Image.{drawables, Image, canvasOf, image}
+use Rattle.xcf_read_laws.proofs.Ranges.{ensures-pointers}
 use Rattle.xcf_usable.specs.Usable.{tableRows, usable}
 use Rattle.xcf_round_trip.specs.Taken.{RowExcepted, RowsExcepted}
 use Rattle.xcf_round_trip.proofs.StructureGiven.{LayerGiven, layer-given, channel-given}

@@ -7,9 +7,9 @@ use native.Mathlib.Omega.{arith}
 use borrow.Author.Tests.{ne-eqb}
 use lib.ListN.{length, getD, length-append}
 use lib.Seq.{getD-append-seam}
-use Rattle.xcf_walk.specs.Walk.{part}
+use Rattle.xcf_store.specs.Word.{part, wordBytes}
 use Rattle.xcf_walk.specs.Fields.{word, string}
-use Rattle.xcf_write.specs.Structure.{wordBytes, nameBytes}
+use Rattle.xcf_structure.specs.Structure.{nameBytes}
 use Rattle.xcf_round_trip.proofs.Parts.{Stands}
 use Rattle.xcf_round_trip.proofs.Stands.{stands-front, stands-behind}
 use Rattle.xcf_round_trip.proofs.Steps.{Reads, then, then-here, ends, reads-bytes, reads-must}

@@ -6,7 +6,7 @@ use mathlib.Core.List.{List}
 use mathlib.Core.Bool.{true}
 use native.Mathlib.Nat.{add-zero, zero-add}
 use native.Mathlib.Omega.{arith}
-use Rattle.xcf_read.specs.declared.drawable.Canvas.{Canvas}
+use Rattle.xcf_table.specs.declared.canvas.Canvas.{Canvas}
 use Rattle.xcf_usable.specs.Usable.{tableRows, usable, badFrom, badRow}
 
 module _ (c : Canvas) (names : ℕ) (table : List ℕ) (all : (k : ℕ) → k < tableRows → usable c names table k ≡ true) where

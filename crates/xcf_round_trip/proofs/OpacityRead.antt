@@ -7,12 +7,13 @@ use mathlib.Core.Bool.{Bool, true, false, cond}
 use native.Mathlib.Omega.{arith}
 use borrow.Author.Tests.{leb-true}
 use lib.Dec.{leb, eqb}
-use Rattle.xcf_walk.specs.declared.property.Content.{Content}
-use Rattle.xcf_walk.specs.declared.property.Properties.{Properties}
+use Rattle.xcf_property.specs.declared.Content.{Content}
+use Rattle.xcf_property.specs.declared.Properties.{Properties}
 use Rattle.xcf_walk.specs.Walk.{must}
-use Rattle.xcf_walk.specs.Property.{imageList, allowed, property, put, propertyTurn, properties}
-use Rattle.xcf_walk.proofs.Ensures.{Ensures, ensures-done, ensures-must, ensures-bind, ensures-next, InTurn, ensures-loop}
-use Rattle.xcf_tile.proofs.Cases.{by-cases}
+use Rattle.xcf_property.specs.Property.{imageList, allowed, put}
+use Rattle.xcf_walk.specs.Property.{property, propertyTurn, properties}
+use Rattle.xcf_walk_laws.proofs.Ensures.{Ensures, ensures-done, ensures-must, ensures-bind, ensures-next, InTurn, ensures-loop}
+use Rattle.xcf_laws.proofs.Cases.{by-cases}
 
 module _ (list : ℕ) (drawn : eqb list imageList ≡ false) where
   put-opacity : (kind : ℕ) (c : Content) (p : Properties) → allowed list kind (c .first) ≡ true → p .opacity ≤ 255

@@ -4,13 +4,14 @@ use mathlib.Core.Path.{_≡_}
 use mathlib.Core.List.{List, [], _∷_}
 use mathlib.Core.Bool.{Bool, cond}
 use lib.ListN.{length}
-use Rattle.xcf_walk.specs.Walk.{Walk, got, run, part}
-use Rattle.xcf_walk.specs.declared.property.Properties.{Properties}
+use Rattle.xcf_walk.specs.Walk.{Walk, got, run}
+use Rattle.xcf_store.specs.Word.{part}
+use Rattle.xcf_property.specs.declared.Properties.{Properties}
 use Rattle.xcf_table.specs.declared.Row.{Row}
 use Rattle.xcf_table.specs.Table.{Rows, addRow}
 use Rattle.xcf_usable.specs.Usable.{isLayer, visible, apply, selection, active}
-use Rattle.xcf_write.specs.Structure.{nameBytes}
-use Rattle.xcf_write.specs.File.{Drawable, structureSize, hierarchySize, drawableSize}
+use Rattle.xcf_structure.specs.Structure.{nameBytes}
+use Rattle.xcf_drawable.specs.Drawable.{Drawable, structureSize, hierarchySize, drawableSize}
 use Rattle.xcf_round_trip.specs.RoundTrip.{withPlaces}
 
 -- the bytes bs stand in the file f from the place p on

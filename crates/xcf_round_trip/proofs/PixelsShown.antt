@@ -8,14 +8,14 @@ use native.Mathlib.Nat.{zero-add, mul-comm}
 use native.Mathlib.Omega.{arith}
 use lib.ListN.{getD}
 use Rattle.xcf_table.specs.declared.Row.{Row}
-use Rattle.xcf_tile.specs.Grid.{tileSide, sideOf, tileCount}
-use Rattle.xcf_decode.specs.Pixels.{tileAt, pixelIn, byteOf, pixelsOf, placeOf, shown}
-use Rattle.xcf_decode.proofs.Grid.{tile-column, tile-line}
-use Rattle.xcf_decode.proofs.Places.{place-row, place-column}
-use Rattle.xcf_decode.proofs.PixelBytes.{byte-in-tile}
-use Rattle.xcf_decode.proofs.Shown.{shown-all}
-use Rattle.xcf_decode.proofs.Tabulated.{tabulate-entry}
-use Rattle.xcf_write.specs.Parts.{Drawn}
+use Rattle.xcf_grid.specs.Grid.{tileSide, sideOf, tileCount}
+use Rattle.xcf_grid.specs.Pixels.{tileAt, pixelIn, byteOf, pixelsOf, placeOf, shown}
+use Rattle.xcf_grid.proofs.Grid.{tile-column, tile-line}
+use Rattle.xcf_grid.proofs.Places.{place-row, place-column}
+use Rattle.xcf_grid.proofs.PixelBytes.{byte-in-tile}
+use Rattle.xcf_grid.proofs.Shown.{shown-all}
+use Rattle.xcf_grid.proofs.Tabulated.{tabulate-entry}
+use Rattle.xcf_grid.specs.Drawn.{Drawn}
 
 -- pixel (x, y) has its column and its line in its tile
 pixel-column : (w x y : ℕ) → x < w → pixelIn w x y % sideOf w (x / tileSide) ≡ x % tileSide

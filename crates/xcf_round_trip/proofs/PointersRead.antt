@@ -10,9 +10,11 @@ use borrow.Author.Tests.{ne-eqb}
 use lib.Dec.{eqb}
 use lib.ListN.{length, length-append}
 use Rattle.xcf_read.specs.Image.{pointers}
-use Rattle.xcf_write.specs.Structure.{wordBytes, words, when}
-use Rattle.xcf_write.specs.File.{Drawable, drawableSize, drawableBytes, drawablesBytes, placesOf}
-use Rattle.xcf_write.proofs.DrawableLength.{drawable-length}
+use Rattle.xcf_store.specs.Word.{wordBytes, words, when}
+use Rattle.xcf_drawable.specs.Drawable.{Drawable, drawableSize, drawableBytes}
+use Rattle.xcf_rows.specs.Rows.{drawablesBytes}
+use Rattle.xcf_write.specs.File.{placesOf}
+use Rattle.xcf_drawable.proofs.DrawableLength.{drawable-length}
 use Rattle.xcf_round_trip.proofs.Parts.{Stands, Rises}
 use Rattle.xcf_round_trip.proofs.Steps.{Reads, then, then-here, ends, reads-must}
 use Rattle.xcf_round_trip.proofs.WordsRead.{words-rest, reads-number}

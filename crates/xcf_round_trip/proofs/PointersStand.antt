@@ -6,12 +6,13 @@ use mathlib.Core.Path.{_≡_, _∙_}
 use mathlib.Core.List.{List, [], _∷_, _++_}
 use native.Mathlib.Omega.{arith}
 use lib.ListN.{length}
-use Rattle.xcf_read.specs.Hierarchy.{pointerSize, tiles}
-use Rattle.xcf_decode.specs.Window.{pointerAt}
-use Rattle.xcf_write.specs.Structure.{words, levelBytes}
-use Rattle.xcf_write.specs.File.{Drawable, tilesOf, starts, drawableBytes}
-use Rattle.xcf_write.specs.Parts.{Writable}
-use Rattle.xcf_write.proofs.DrawableLength.{tiles-counted, starts-length, levelAt, tilesAt}
+use Rattle.xcf_parse.specs.Hierarchy.{pointerSize, tiles}
+use Rattle.xcf_window.specs.Window.{pointerAt}
+use Rattle.xcf_store.specs.Word.{words}
+use Rattle.xcf_structure.specs.Structure.{levelBytes}
+use Rattle.xcf_drawable.specs.Drawable.{Drawable, tilesOf, starts, drawableBytes}
+use Rattle.xcf_drawable.specs.Parts.{Writable}
+use Rattle.xcf_drawable.proofs.DrawableLength.{tiles-counted, starts-length, levelAt, tilesAt}
 use Rattle.xcf_round_trip.proofs.Parts.{Stands, Gives, Rises, readRow}
 use Rattle.xcf_round_trip.proofs.WordsRead.{words-rest}
 use Rattle.xcf_round_trip.proofs.HierarchyRead.{reads-tiles}

@@ -9,16 +9,16 @@ use native.Mathlib.Omega.{arith}
 use borrow.Author.Tests.{eqb-true, eqb-false, le-leb}
 use lib.Dec.{eqb}
 use lib.ListN.{length}
-use Rattle.xcf_walk.specs.declared.property.Content.{Content}
-use Rattle.xcf_walk.specs.declared.property.Properties.{Properties}
-use Rattle.xcf_walk.specs.Fields.{wordOf}
-use Rattle.xcf_walk.specs.Property.{imageList, lengthOk, contentOf, allowed, activeType, absent, put, properties}
-use Rattle.xcf_walk.proofs.Cases.{cond-same}
+use Rattle.xcf_property.specs.declared.Content.{Content}
+use Rattle.xcf_property.specs.declared.Properties.{Properties}
+use Rattle.xcf_store.specs.Word.{wordOf, wordBytes, words, when}
+use Rattle.xcf_property.specs.Property.{imageList, lengthOk, contentOf, allowed, activeType, absent, put}
+use Rattle.xcf_walk.specs.Property.{properties}
+use Rattle.xcf_laws.proofs.Cases.{cond-same, by-cases}
 use Rattle.xcf_table.specs.declared.Row.{Row}
-use Rattle.xcf_tile.proofs.Cases.{by-cases}
 use Rattle.xcf_usable.specs.Usable.{isLayer, apply, selection, active}
-use Rattle.xcf_write.specs.Structure.{wordBytes, words, when, Property, propertyBytes, listBytes, worded, imageProperties, drawableProperties}
-use Rattle.xcf_write.proofs.Words.{words-length}
+use Rattle.xcf_structure.specs.Structure.{Property, propertyBytes, listBytes, worded, imageProperties, drawableProperties}
+use Rattle.xcf_store.proofs.Words.{words-length}
 use Rattle.xcf_round_trip.proofs.Parts.{Stands, propertiesOf}
 use Rattle.xcf_round_trip.proofs.Steps.{Reads}
 use Rattle.xcf_round_trip.proofs.WordsRead.{word-value}

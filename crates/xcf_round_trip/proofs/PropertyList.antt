@@ -10,12 +10,14 @@ use native.Mathlib.Omega.{arith}
 use borrow.Author.Tests.{ne-eqb}
 use lib.Dec.{eqb}
 use lib.ListN.{length, length-append}
-use Rattle.xcf_walk.specs.declared.property.Properties.{Properties}
+use Rattle.xcf_property.specs.declared.Properties.{Properties}
 use Rattle.xcf_walk.specs.Walk.{more, last, turns, loop}
 use Rattle.xcf_walk.specs.Fields.{word}
-use Rattle.xcf_walk.specs.Property.{lengthOk, contentOf, payload, isColourMap, content, property, isFloating, lacksMap, allowed, absent, put, propertyTurn, properties}
-use Rattle.xcf_walk.proofs.Cases.{cond-same}
-use Rattle.xcf_write.specs.Structure.{wordBytes, Property, propertyBytes, listBytes}
+use Rattle.xcf_property.specs.Property.{lengthOk, contentOf, isColourMap, isFloating, lacksMap, allowed, absent, put}
+use Rattle.xcf_walk.specs.Property.{payload, content, property, propertyTurn, properties}
+use Rattle.xcf_laws.proofs.Cases.{cond-same}
+use Rattle.xcf_store.specs.Word.{wordBytes}
+use Rattle.xcf_structure.specs.Structure.{Property, propertyBytes, listBytes}
 use Rattle.xcf_round_trip.proofs.Parts.{Stands}
 use Rattle.xcf_round_trip.proofs.Stands.{stands-front, stands-behind}
 use Rattle.xcf_round_trip.proofs.Steps.{Reads, then, then-here, then-length, ends, reads-bytes, reads-must}

@@ -10,20 +10,24 @@ use native.Mathlib.Nat.{add-zero, zero-add}
 use native.Mathlib.Omega.{arith}
 use lib.ListN.{length, getD, replicate}
 use lib.Seq.{take-append-seam}
-use Rattle.xcf_walk.specs.Walk.{part, got}
+use Rattle.xcf_store.specs.Word.{part}
+use Rattle.xcf_walk.specs.Walk.{got}
 use Rattle.xcf_table.specs.declared.Row.{Row}
-use Rattle.xcf_table.specs.Table.{tableSize, noRows, rowAt, unusedRow, tableOf}
-use Rattle.xcf_read.specs.declared.drawable.Canvas.{Canvas}
-use Rattle.xcf_read.specs.Answer.{fileLimit, readingOf, reading}
-use Rattle.xcf_read.proofs.Accepted.{read-walked}
-use Rattle.xcf_decode.specs.Answer.{fits, decoding}
+use Rattle.xcf_table.specs.Table.{tableSize, noRows, rowAt, unusedRow, tableOf, fileLimit}
+use Rattle.xcf_table.specs.declared.canvas.Canvas.{Canvas}
+use Rattle.xcf_read.specs.Answer.{readingOf, reading}
+use Rattle.xcf_read_laws.proofs.Accepted.{read-walked}
+use Rattle.xcf_window.specs.Usable.{fits}
+use Rattle.xcf_decode.specs.Answer.{decoding}
 use Rattle.xcf_usable.specs.Usable.{tableRows, seenAt, masked, usable}
 use Rattle.xcf_usable.proofs.AllUsable.{all-usable}
 use Rattle.xcf_usable.proofs.RowFacts.{Use, unused, layer, mask, channel, row-use, kind-listed}
 use Rattle.xcf_usable.proofs.Order.{after-unused}
-use Rattle.xcf_write.specs.File.{Drawable, drawableBytes, versionOf, imageSize}
-use Rattle.xcf_write.specs.Answer.{usedRows, fileOf}
-use Rattle.xcf_write.specs.Parts.{Writable}
+use Rattle.xcf_drawable.specs.Drawable.{Drawable, drawableBytes}
+use Rattle.xcf_write.specs.File.{versionOf, imageSize}
+use Rattle.xcf_rows.specs.Rows.{usedRows}
+use Rattle.xcf_write.specs.Answer.{fileOf}
+use Rattle.xcf_drawable.specs.Parts.{Writable}
 use Rattle.xcf_write.proofs.Accepted.{InputAccepted, accepted}
 use Rattle.xcf_write.proofs.RowsUsed.{used-most, used-kind}
 use Rattle.xcf_write.proofs.FileLaws.{rows-length}

@@ -8,10 +8,10 @@ use mathlib.Core.Bool.{Bool, true, false}
 use native.Mathlib.Omega.{arith}
 use Rattle.xcf_table.specs.declared.Row.{Row}
 use Rattle.xcf_table.specs.Table.{rowNumbers, unusedRow}
-use Rattle.xcf_read.specs.declared.drawable.Canvas.{Canvas}
-use Rattle.xcf_read.specs.declared.drawable.Fields.{Fields}
-use Rattle.xcf_read.specs.declared.drawable.Layer.{Layer}
-use Rattle.xcf_read.specs.declared.drawable.Owner.{Owner}
+use Rattle.xcf_table.specs.declared.canvas.Canvas.{Canvas}
+use Rattle.xcf_parse.specs.declared.drawable.Fields.{Fields}
+use Rattle.xcf_parse.specs.declared.drawable.Layer.{Layer}
+use Rattle.xcf_parse.specs.declared.drawable.Owner.{Owner}
 use Rattle.xcf_read.specs.Drawable.{layerRow, channelRow, maskOwner, channelOwner}
 use Rattle.xcf_usable.specs.Usable.{allZero}
 use Rattle.xcf_usable.proofs.RowFacts.{DrawableFacts, LayerFacts, ChannelFacts, MaskFacts, CanvasFacts}

@@ -9,12 +9,12 @@ use mathlib.Core.Bool.{true, false, cond}
 use mathlib.Core.Logic.{⊎-elim}
 use native.Mathlib.Numerals.{add-one}
 use native.Mathlib.Omega.{arith}
-use Rattle.xcf_walk.proofs.Cases.{below-or}
+use Rattle.xcf_laws.proofs.Cases.{below-or}
 use Rattle.xcf_table.specs.declared.Row.{Row}
 use Rattle.xcf_table.specs.Table.{unusedRow, rowAt}
-use Rattle.xcf_read.specs.declared.drawable.Canvas.{Canvas}
-use Rattle.xcf_read.specs.declared.drawable.Fields.{Fields}
-use Rattle.xcf_read.specs.declared.drawable.Layer.{Layer}
+use Rattle.xcf_table.specs.declared.canvas.Canvas.{Canvas}
+use Rattle.xcf_parse.specs.declared.drawable.Fields.{Fields}
+use Rattle.xcf_parse.specs.declared.drawable.Layer.{Layer}
 use Rattle.xcf_read.specs.Drawable.{layerRow, channelRow, maskOwner, channelOwner}
 use Rattle.xcf_usable.specs.Usable.{tableRows, isLayer, isChannel, isUnused, before, rowBefore, seenAt, masked, usable}
 use Rattle.xcf_usable.proofs.Counts.{before-next}

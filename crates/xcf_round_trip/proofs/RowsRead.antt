@@ -9,11 +9,13 @@ use borrow.Author.Tests.{eq-eqb, ne-eqb}
 use lib.ListN.{length, getD}
 use Rattle.xcf_walk.specs.Walk.{Walk}
 use Rattle.xcf_table.specs.Table.{Rows, addRow}
-use Rattle.xcf_read.specs.declared.drawable.Canvas.{Canvas}
+use Rattle.xcf_table.specs.declared.canvas.Canvas.{Canvas}
 use Rattle.xcf_read.specs.Drawable.{layerRows, canvasChannelRows}
 use Rattle.xcf_read.specs.Image.{drawables}
-use Rattle.xcf_write.specs.File.{Drawable, drawableSize, drawableBytes, drawablesBytes, placesOf}
-use Rattle.xcf_write.proofs.DrawableLength.{drawable-length}
+use Rattle.xcf_drawable.specs.Drawable.{Drawable, drawableSize, drawableBytes}
+use Rattle.xcf_rows.specs.Rows.{drawablesBytes}
+use Rattle.xcf_write.specs.File.{placesOf}
+use Rattle.xcf_drawable.proofs.DrawableLength.{drawable-length}
 use Rattle.xcf_round_trip.proofs.Parts.{Stands, Gives, readRow, addAll}
 use Rattle.xcf_round_trip.proofs.Stands.{stands-front, stands-behind}
 use Rattle.xcf_round_trip.proofs.Steps.{reads-gives, gives-reads, then, ends, reads-jump}

@@ -9,9 +9,9 @@ use borrow.Author.Tests.{eq-eqb, lt-ltb}
 use lib.ListN.{length}
 use Rattle.xcf_table.specs.declared.Row.{Row}
 use Rattle.xcf_table.specs.Table.{rowSize, rowAt, Rows, addRow}
-use Rattle.xcf_read.specs.declared.drawable.Canvas.{Canvas}
-use Rattle.xcf_read.specs.declared.drawable.Fields.{Fields}
-use Rattle.xcf_read.specs.declared.drawable.Layer.{Layer}
+use Rattle.xcf_table.specs.declared.canvas.Canvas.{Canvas}
+use Rattle.xcf_parse.specs.declared.drawable.Fields.{Fields}
+use Rattle.xcf_parse.specs.declared.drawable.Layer.{Layer}
 use Rattle.xcf_read.specs.Drawable.{layerRow, channelRow, maskOwner, channelOwner}
 use Rattle.xcf_usable.specs.Usable.{tableRows, masked}
 use Rattle.xcf_round_trip.specs.Taken.{RowExcepted, RowsExcepted}

@@ -7,14 +7,15 @@ use mathlib.Core.Bool.{true, false}
 use lib.Dec.{eqb}
 use Rattle.xcf_walk.specs.Walk.{Walk, here}
 use Rattle.xcf_walk.specs.Fields.{number, word, string}
-use Rattle.xcf_walk.specs.Property.{imageList, layerList}
-use Rattle.xcf_walk.proofs.Ensures.{Ensures, ensures-done, ensures-must, ensures-bind, ensures-next}
-use Rattle.xcf_read.specs.declared.drawable.Layer.{Layer}
-use Rattle.xcf_read.specs.declared.drawable.Owner.{Owner}
-use Rattle.xcf_read.specs.declared.drawable.Fields.{Fields}
-use Rattle.xcf_read.specs.Hierarchy.{pointer}
-use Rattle.xcf_read.specs.Drawable.{side, sideLike, typeOk, layerType, fields, layer, channel}
-use Rattle.xcf_read.proofs.Ranges.{Side, LayerInRange, ensures-layer, ensures-channel}
+use Rattle.xcf_property.specs.Property.{imageList, layerList}
+use Rattle.xcf_walk_laws.proofs.Ensures.{Ensures, ensures-done, ensures-must, ensures-bind, ensures-next}
+use Rattle.xcf_parse.specs.declared.drawable.Layer.{Layer}
+use Rattle.xcf_parse.specs.declared.drawable.Owner.{Owner}
+use Rattle.xcf_parse.specs.declared.drawable.Fields.{Fields}
+use Rattle.xcf_parse.specs.Hierarchy.{pointer}
+use Rattle.xcf_parse.specs.Drawable.{side, sideLike, layerType, fields, layer, channel}
+use Rattle.xcf_table.specs.Canvas.{typeOk}
+use Rattle.xcf_read_laws.proofs.Ranges.{Side, LayerInRange, ensures-layer, ensures-channel}
 use Rattle.xcf_round_trip.proofs.OpacityRead.{ensures-opacity}
 
 pub record LayerGiven (base : ℕ) (x : Layer) : Type 0 where

@@ -10,16 +10,18 @@ use borrow.Author.Tests.{eq-eqb}
 use lib.ListN.{length}
 use Rattle.xcf_walk.specs.Fields.{word}
 use Rattle.xcf_table.specs.declared.Row.{Row}
-use Rattle.xcf_tile.proofs.Sizes.{bounds-within}
-use Rattle.xcf_read.specs.declared.drawable.Fields.{Fields}
-use Rattle.xcf_read.specs.declared.drawable.Layer.{Layer}
-use Rattle.xcf_read.specs.declared.drawable.Owner.{Owner}
-use Rattle.xcf_read.specs.Drawable.{sideOk, side, sideLike, typeOk, layerType, fields, layer, channel}
+use Rattle.xcf_range.proofs.Bounds.{bounds-within}
+use Rattle.xcf_parse.specs.declared.drawable.Fields.{Fields}
+use Rattle.xcf_parse.specs.declared.drawable.Layer.{Layer}
+use Rattle.xcf_parse.specs.declared.drawable.Owner.{Owner}
+use Rattle.xcf_table.specs.Canvas.{sideOk, typeOk}
+use Rattle.xcf_parse.specs.Drawable.{side, sideLike, layerType, fields, layer, channel}
 use Rattle.xcf_usable.specs.Usable.{isLayer}
-use Rattle.xcf_write.specs.Structure.{words, when, nameBytes, listBytes, drawableProperties, structureBytes}
-use Rattle.xcf_write.specs.File.{Drawable}
-use Rattle.xcf_write.specs.Parts.{Writable}
-use Rattle.xcf_write.proofs.Words.{words-length}
+use Rattle.xcf_store.specs.Word.{words, when}
+use Rattle.xcf_structure.specs.Structure.{nameBytes, listBytes, drawableProperties, structureBytes}
+use Rattle.xcf_drawable.specs.Drawable.{Drawable}
+use Rattle.xcf_drawable.specs.Parts.{Writable}
+use Rattle.xcf_store.proofs.Words.{words-length}
 use Rattle.xcf_round_trip.proofs.Parts.{Stands, Gives, propertiesOf, sidesSize}
 use Rattle.xcf_round_trip.proofs.Stands.{stands-front, stands-behind}
 use Rattle.xcf_round_trip.proofs.Steps.{Reads, reads-gives, then, then-here, ends, reads-must}

@@ -15,7 +15,7 @@ use Rattle.xcf_table.specs.Table.{rowSize, tableSize, rowNumbers, Rows, noRows,
 use Rattle.xcf_table.proofs.Rows.{row-added, row-in-front}
 use Rattle.xcf_table.proofs.Tables.{table-length as rows-table, table-row as rows-row, table-unused as rows-unused}
 use Rattle.xcf_usable.specs.Usable.{tableRows, allZero}
-use Rattle.xcf_write.specs.File.{Drawable, drawableSize}
+use Rattle.xcf_drawable.specs.Drawable.{Drawable, drawableSize}
 use Rattle.xcf_round_trip.proofs.Parts.{readRow, addAll}
 use Rattle.xcf_round_trip.proofs.RowsRead.{placeAt}
 

@@ -9,18 +9,18 @@ use native.Mathlib.Omega.{arith}
 use lib.ListN.{getD, replicate, length-replicate, getD-replicate}
 use lib.Seq.{ext-getD}
 use Rattle.xcf_table.specs.declared.Row.{Row}
-use Rattle.xcf_tile.specs.Grid.{tileWidth, tileHeight}
+use Rattle.xcf_grid.specs.Grid.{tileWidth, tileHeight}
 use Rattle.xcf_tile.specs.Tile.{tileOf}
-use Rattle.xcf_encode.proofs.TileReadBack.{tile-read-back}
-use Rattle.xcf_read.specs.Hierarchy.{pointerSize}
-use Rattle.xcf_decode.specs.Window.{tile}
-use Rattle.xcf_decode.specs.Pixels.{tabulate, shown, pixelsOf}
+use Rattle.xcf_encode_laws.proofs.TileReadBack.{tile-read-back}
+use Rattle.xcf_parse.specs.Hierarchy.{pointerSize}
+use Rattle.xcf_window.specs.Window.{tile}
+use Rattle.xcf_grid.specs.Pixels.{tabulate, shown, pixelsOf}
 use Rattle.xcf_decode.specs.Answer.{marksOf, nonzero, rowDecoding}
-use Rattle.xcf_decode.proofs.Tabulated.{tabulate-length, tabulate-entry}
-use Rattle.xcf_write.specs.File.{Drawable, encodings, tilesOf}
-use Rattle.xcf_write.specs.Parts.{Writable, encodingOf}
-use Rattle.xcf_write.proofs.Lines.{tiled-width, tiled-height, shown-length}
-use Rattle.xcf_write.proofs.EncodingBound.{tiled}
+use Rattle.xcf_grid.proofs.Tabulated.{tabulate-length, tabulate-entry}
+use Rattle.xcf_drawable.specs.Drawable.{Drawable, encodings, tilesOf}
+use Rattle.xcf_drawable.specs.Parts.{Writable, encodingOf}
+use Rattle.xcf_grid.proofs.Lines.{tiled-width, tiled-height, shown-length}
+use Rattle.xcf_drawable.proofs.EncodingBound.{tiled}
 use Rattle.xcf_round_trip.proofs.Parts.{readRow}
 use Rattle.xcf_round_trip.proofs.TilesRise.{writable-drawn}
 use Rattle.xcf_round_trip.proofs.PixelsShown.{pixels-of-tiles}

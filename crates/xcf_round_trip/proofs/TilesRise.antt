@@ -6,15 +6,16 @@ use native.Mathlib.Nat.{mul-le-mul}
 use native.Mathlib.Omega.{arith}
 use lib.ListN.{length, length-append}
 use Rattle.xcf_table.specs.declared.Row.{Row}
-use Rattle.xcf_encode.specs.Segment.{Segment, runOf, copyOf, sizeOf, firstSegment, written, encodeStream}
+use Rattle.xcf_segment.specs.Segment.{Segment, runOf, copyOf, sizeOf, firstSegment, written, encodeStream}
 use Rattle.xcf_encode.specs.Tile.{plane, planes, encodeAll, encodeTile}
-use Rattle.xcf_encode.proofs.Segments.{first-some, encode-cons}
-use Rattle.xcf_encode.proofs.Written.{run-length, copy-length}
+use Rattle.xcf_segment.proofs.Segments.{first-some, encode-cons}
+use Rattle.xcf_segment.proofs.Written.{run-length, copy-length}
 use Rattle.xcf_encode.proofs.Planes.{plane-length}
-use Rattle.xcf_write.specs.File.{Drawable, encodings, tilesOf, joined, starts}
-use Rattle.xcf_write.specs.Parts.{Writable, Drawn, Tiled, encodingOf}
-use Rattle.xcf_write.proofs.Lines.{tiled-width, tiled-height}
-use Rattle.xcf_write.proofs.EncodingBound.{tiled}
+use Rattle.xcf_drawable.specs.Drawable.{Drawable, encodings, tilesOf, joined, starts}
+use Rattle.xcf_drawable.specs.Parts.{Writable, encodingOf}
+use Rattle.xcf_grid.specs.Drawn.{Drawn, Tiled}
+use Rattle.xcf_grid.proofs.Lines.{tiled-width, tiled-height}
+use Rattle.xcf_drawable.proofs.EncodingBound.{tiled}
 use Rattle.xcf_round_trip.proofs.Parts.{Rises}
 
 -- an operation has a byte at least, and so have the encodings of a stream that is not empty and of a tile

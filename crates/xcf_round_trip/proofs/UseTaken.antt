@@ -7,8 +7,8 @@ use native.Mathlib.Omega.{arith}
 use borrow.Author.Tests.{eq-eqb, ne-eqb, le-leb, lt-ltb}
 use lib.Dec.{eqb}
 use Rattle.xcf_table.specs.declared.Row.{Row}
-use Rattle.xcf_read.specs.declared.drawable.Canvas.{Canvas}
-use Rattle.xcf_read.specs.Drawable.{sideOk}
+use Rattle.xcf_table.specs.declared.canvas.Canvas.{Canvas}
+use Rattle.xcf_table.specs.Canvas.{sideOk}
 use Rattle.xcf_usable.specs.declared.seen.Seen.{Seen}
 use Rattle.xcf_usable.specs.Usable.{apply, isActiveLayer, isActiveChannel, isSelection, noSecond, drawableOk, layerOk, layerFollows, channelOk, maskFollows, channelFollows, usableRow}
 use Rattle.xcf_usable.proofs.RowFacts.{DrawableFacts, LayerFacts, ChannelFacts, MaskFacts, CanvasFacts, BeforeLayer, BeforeChannel, Use, unused, layer, mask, channel}

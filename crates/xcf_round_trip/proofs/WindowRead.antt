@@ -11,17 +11,15 @@ use borrow.Author.Tests.{ltb-true}
 use lib.Dec.{ltb}
 use lib.ListN.{length, getD, take, drop, take-append-drop}
 use lib.Seq.{take-take}
-use Rattle.xcf_walk.specs.Walk.{part}
-use Rattle.xcf_walk.specs.Fields.{bigEndian}
+use Rattle.xcf_store.specs.Word.{part, bigEndian, words}
 use Rattle.xcf_table.specs.declared.Row.{Row}
 use Rattle.xcf_tile.specs.Tile.{tileOf}
-use Rattle.xcf_tile.proofs.Cases.{by-cases}
-use Rattle.xcf_read.specs.Hierarchy.{pointerSize}
-use Rattle.xcf_decode.specs.Window.{pointerAt, windowEnd, windowLength, window}
-use Rattle.xcf_decode.proofs.Cuts.{cut-same}
-use Rattle.xcf_write.specs.Structure.{words}
-use Rattle.xcf_write.specs.File.{joined, starts}
-use Rattle.xcf_write.proofs.Words.{word-length}
+use Rattle.xcf_laws.proofs.Cases.{by-cases}
+use Rattle.xcf_parse.specs.Hierarchy.{pointerSize}
+use Rattle.xcf_window.specs.Window.{pointerAt, windowEnd, windowLength, window}
+use Rattle.xcf_window.proofs.Cuts.{cut-same}
+use Rattle.xcf_drawable.specs.Drawable.{joined, starts}
+use Rattle.xcf_store.proofs.Words.{word-length}
 use Rattle.xcf_round_trip.proofs.Parts.{Stands, Rises}
 use Rattle.xcf_round_trip.proofs.Stands.{stands-front, stands-behind}
 use Rattle.xcf_round_trip.proofs.WordsRead.{word-value, words-first, words-rest}

@@ -5,8 +5,8 @@ use mathlib.Core.Path.{_≡_}
 use mathlib.Core.List.{List, _∷_}
 use native.Mathlib.Nat.{zero-add, mod-eq-of-lt, div-add-mod', div-div-eq-div-mul}
 use native.Mathlib.Omega.{arith}
-use Rattle.xcf_walk.specs.Fields.{bigEndian, number}
-use Rattle.xcf_write.specs.Structure.{wordBytes, words}
+use Rattle.xcf_store.specs.Word.{bigEndian, wordBytes, words}
+use Rattle.xcf_walk.specs.Fields.{number}
 use Rattle.xcf_round_trip.proofs.Parts.{Stands}
 use Rattle.xcf_round_trip.proofs.Stands.{stands-front, stands-behind}
 use Rattle.xcf_round_trip.proofs.Steps.{Reads, then, ends-as, reads-bytes}

@@ -5,15 +5,18 @@ use mathlib.Core.Path.{_≡_}
 use mathlib.Core.List.{List}
 use mathlib.Core.Bool.{true}
 use lib.ListN.{length, getD, take, replicate}
-use Rattle.xcf_walk.specs.Walk.{part}
+use Rattle.xcf_store.specs.Word.{part}
 use Rattle.xcf_table.specs.declared.Row.{Row}
 use Rattle.xcf_table.specs.Table.{tableSize, unusedRow, rowAt}
-use Rattle.xcf_read.specs.declared.drawable.Canvas.{Canvas}
+use Rattle.xcf_table.specs.declared.canvas.Canvas.{Canvas}
 use Rattle.xcf_read.specs.Answer.{reading}
-use Rattle.xcf_decode.specs.Answer.{fits, decoding}
+use Rattle.xcf_window.specs.Usable.{fits}
+use Rattle.xcf_decode.specs.Answer.{decoding}
 use Rattle.xcf_usable.specs.Usable.{tableRows}
-use Rattle.xcf_write.specs.File.{versionOf, pixelSize, pixelsSize, drawablesFrom}
-use Rattle.xcf_write.specs.Answer.{usedRows, writing}
+use Rattle.xcf_write.specs.File.{versionOf}
+use Rattle.xcf_grid.specs.Drawn.{pixelSize}
+use Rattle.xcf_rows.specs.Rows.{pixelsSize, drawablesFrom, usedRows}
+use Rattle.xcf_write.specs.Answer.{writing}
 
 -- a row with other numbers in fields 5, 7 and 8
 abbrev pub withPlaces : Row → ℕ → ℕ → ℕ → Row

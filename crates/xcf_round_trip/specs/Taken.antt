@@ -5,7 +5,7 @@ use mathlib.Core.Path.{_≡_}
 use mathlib.Core.List.{List}
 use Rattle.xcf_table.specs.declared.Row.{Row}
 use Rattle.xcf_table.specs.Table.{rowAt}
-use Rattle.xcf_read.specs.declared.drawable.Canvas.{Canvas}
+use Rattle.xcf_table.specs.declared.canvas.Canvas.{Canvas}
 use Rattle.xcf_read.specs.Answer.{reading}
 use Rattle.xcf_usable.specs.Usable.{tableRows, before, isActiveLayer, isActiveChannel, isSelection, badRow}
 use Rattle.xcf_round_trip.specs.RoundTrip.{withPlaces}

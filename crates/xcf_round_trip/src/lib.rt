@@ -1,1 +1,1 @@
-// What the writer writes reads back: statements and proofs only.
+// xcf_round_trip

@@ -1,1 +1,2 @@
+pub mod Canvas
 pub mod Table

@@ -74,3 +74,6 @@ rowsIn k table = record { count = k; numbers = take (rowSize * k) table }
 -- the table of some rows: unused rows are zero
 unfoldable pub tableOf : Rows → List ℕ
 tableOf rows = rows .numbers ++ replicate (tableSize - length (rows .numbers)) 0
+
+abbrev pub fileLimit : ℕ
+fileLimit = 1073741824

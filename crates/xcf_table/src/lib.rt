@@ -1,9 +1,13 @@
-// The row table: 128 rows of 16 numbers in a lent slice.
+// The reader: a file's structures, checked rule by rule, as rows of a lent table.
+pub mod canvas;
+
 ghost use mathlib.Core.Path.{_≡_};
 ghost use Prim.Native.Nat.{_+_, _≤_};
 ghost use lib.ListN.{length};
 ghost use lib.Seq.{paste};
 ghost use Rattle.xcf_table.specs.Table.{rowSize, rowNumbers, putRow, rowIn, unusedRow, rowAt, clearFrom};
+
+pub const FILE_LIMIT: usize = 1073741824;
 
 pub const ROW_SIZE: usize = 16;
 

@@ -10,8 +10,8 @@ use native.Mathlib.Omega.{arith}
 use lib.ListN.{length, getD, set, length-set, length-append}
 use lib.Seq.{getD-set-same, getD-set-other, getD-append-add, ext-getD}
 use Rattle.xcf_tile.specs.Tile.{pixel, interleave}
-use Rattle.xcf_tile.specs.Parts.{scatter, scatterAll}
-use Rattle.xcf_tile.proofs.Scattering.{scatter-length}
+use Rattle.xcf_stream.specs.Parts.{scatter, scatterAll}
+use Rattle.xcf_stream.proofs.Scattering.{scatter-length}
 use Rattle.xcf_tile.proofs.Lengths.{Each}
 
 -- a place that is none of those put is as it was

@@ -8,11 +8,11 @@ use native.Mathlib.Omega.{arith}
 use borrow.Author.Tests.{ltb-false, eqb-true, eqb-false}
 use lib.ListN.{length, length-append, length-replicate, length-take, length-drop}
 use lib.Dec.{ltb, eqb}
-use Rattle.xcf_tile.specs.Operation.{Operation, run, copy, short, over, operationAt}
-use Rattle.xcf_tile.specs.Stream.{Stream, streamFrom, streamWithin, streamAt}
-use Rattle.xcf_tile.specs.Tile.{Streams, before, streamsAt}
-use Rattle.xcf_tile.proofs.Cases.{by-cases}
-use Rattle.xcf_tile.proofs.StreamLaws.{Sound, sound}
+use Rattle.xcf_operation.specs.Operation.{Operation, run, copy, short, over, operationAt}
+use Rattle.xcf_stream.specs.Stream.{Stream, streamFrom, streamWithin, streamAt}
+use Rattle.xcf_stream.specs.Streams.{Streams, before, streamsAt}
+use Rattle.xcf_laws.proofs.Cases.{by-cases}
+use Rattle.xcf_stream.proofs.StreamLaws.{Sound, sound}
 
 -- where the mark is 0, so many bytes are out
 abbrev Whole : ℕ → Stream → Type 0

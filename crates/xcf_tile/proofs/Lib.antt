@@ -1,14 +1,4 @@
-pub mod Cases
-pub mod Room
-pub mod Faults
 pub mod Sizes
-pub mod Scattering
-pub mod StreamLaws
-pub mod StreamLoop
-pub mod StreamsLoop
 pub mod Lengths
 pub mod Interleaved
 pub mod Whole
-pub mod Consumed
-pub mod Pixels
-pub mod Marks

@@ -8,9 +8,11 @@ use native.Mathlib.Nat.{mul-comm}
 use borrow.Author.Tests.{le-leb, lt-leb, eq-eqb, ne-eqb}
 use lib.ListN.{length, take, drop, replicate}
 use lib.Seq.{length-take-le, take-length, drop-length}
-use Rattle.xcf_tile.specs.Tile.{plainTile, encodedTile, streamsAt}
-use Rattle.xcf_tile.specs.declared.stream.StreamEnd.{StreamEnd}
-use Rattle.xcf_tile.specs.Parts.{StreamedAll, Gives}
+use Rattle.xcf_tile.specs.Tile.{plainTile, encodedTile}
+use Rattle.xcf_stream.specs.Streams.{streamsAt}
+use Rattle.xcf_stream.specs.declared.StreamEnd.{StreamEnd}
+use Rattle.xcf_stream.specs.Parts.{StreamedAll}
+use Rattle.xcf_tile.specs.Parts.{Gives}
 use Rattle.xcf_tile.proofs.Lengths.{streams-whole}
 use Rattle.xcf_tile.proofs.Interleaved.{scatter-all}
 

@@ -7,9 +7,7 @@ use lib.ListN.{length}
 use lib.Dec.{leb, eqb}
 use Rattle.xcf_tile.specs.declared.TileAnswer.{TileAnswer}
 use Rattle.xcf_tile.specs.Tile.{Tile, tileOf}
-
-abbrev pub within : ℕ → ℕ → ℕ → Bool
-within low high x = leb low x && leb x high
+use Rattle.xcf_range.specs.Range.{within}
 
 -- sides 1 to 64 and depth 1 to 4
 unfoldable pub usableTile : ℕ → ℕ → ℕ → Bool

@@ -1,6 +1,3 @@
-pub mod Operation
-pub mod Stream
 pub mod Tile
-pub mod Grid
 pub mod Answer
 pub mod Parts

@@ -1,19 +1,15 @@
 // One tile of an XCF drawable, decoded from its window.
-pub mod grid;
-mod operation;
-mod scatter;
-mod stream;
-
 ghost use mathlib.Core.Path.{_≡_};
 ghost use lib.ListN.{length, take};
 ghost use Rattle.xcf_tile.specs.Tile.{plainTile, encodedTile, tileIn, windowLimit};
-ghost use mathlib.Core.Bool.{not};
-ghost use Rattle.xcf_tile.specs.Answer.{within, usableTile, decodeRefusal, Decoded};
-ghost use Rattle.xcf_tile.specs.Parts.{Sized, Gives, Usable};
-use crate::scatter::clear;
-use crate::stream::StreamEnd;
-use crate::stream::ended;
-use crate::stream::streams;
+ghost use Rattle.xcf_tile.specs.Answer.{usableTile, decodeRefusal, Decoded};
+ghost use Rattle.xcf_stream.specs.Parts.{Sized};
+ghost use Rattle.xcf_tile.specs.Parts.{Gives, Usable};
+use xcf_range::outside;
+use xcf_stream::StreamEnd;
+use xcf_stream::ended;
+use xcf_stream::scatter::clear;
+use xcf_stream::streams;
 
 #[repr(C)]
 pub struct TileAnswer {
@@ -57,16 +53,6 @@ fn decode(window: &[u8], n: usize, depth: usize, compression: u32, pixels: &mut 
     } else {
         decode_encoded(window, n, depth, pixels)
     }
-}
-
-// Whether x is below `low` or above `high`.
-pub fn outside(low: u32, high: u32, x: u32) -> bool
-    ensures { λ r. ⌜ r ≡ not (within low high x) ⌝ }
-{
-    if x < low {
-        return true;
-    }
-    high < x
 }
 
 // Whether a tile may have these sides and this depth.

@@ -7,7 +7,7 @@ use mathlib.Core.List.{List}
 use mathlib.Core.Bool.{Bool, true, false, cond}
 use native.Mathlib.Omega.{arith}
 use Rattle.xcf_table.specs.Table.{rowAt}
-use Rattle.xcf_read.specs.declared.drawable.Canvas.{Canvas}
+use Rattle.xcf_table.specs.declared.canvas.Canvas.{Canvas}
 use Rattle.xcf_usable.specs.declared.seen.Seen.{Seen}
 use Rattle.xcf_usable.specs.Usable.{tableRows, seenAt, masked, usableRow, usable, badFrom, badRow}
 

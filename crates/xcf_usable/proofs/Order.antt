@@ -10,7 +10,7 @@ use native.Mathlib.Numerals.{add-one}
 use native.Mathlib.Omega.{arith}
 use borrow.Author.Tests.{eq-eqb, eqb-true}
 use Rattle.xcf_table.specs.Table.{rowAt}
-use Rattle.xcf_read.specs.declared.drawable.Canvas.{Canvas}
+use Rattle.xcf_table.specs.declared.canvas.Canvas.{Canvas}
 use Rattle.xcf_usable.specs.Usable.{tableRows, isLayer, isChannel, isUnused, before, rowBefore, seenAt, masked, usable}
 use Rattle.xcf_usable.proofs.Counts.{counted, few-pass}
 use Rattle.xcf_usable.proofs.RowFacts.{MaskFacts, BeforeLayer, Use, unused, layer, mask, channel, row-use, layer-before, mask-facts, channel-before}

@@ -9,10 +9,10 @@ use borrow.Author.Tests.{ltb-true, leb-true, eqb-true, eq-eqb, ne-eqb}
 use lib.Dec.{leb, ltb, eqb}
 use Rattle.xcf_table.specs.declared.Row.{Row}
 use Rattle.xcf_table.specs.Table.{rowNumbers, rowAt}
-use Rattle.xcf_tile.specs.Grid.{tileCount}
-use Rattle.xcf_tile.proofs.Sizes.{within-bounds}
-use Rattle.xcf_read.specs.declared.drawable.Canvas.{Canvas}
-use Rattle.xcf_read.specs.Drawable.{sideOk, typeOk, depthOf}
+use Rattle.xcf_grid.specs.Grid.{tileCount}
+use Rattle.xcf_range.proofs.Bounds.{within-bounds}
+use Rattle.xcf_table.specs.declared.canvas.Canvas.{Canvas}
+use Rattle.xcf_table.specs.Canvas.{sideOk, typeOk, depthOf}
 use Rattle.xcf_usable.specs.declared.seen.Seen.{Seen}
 use Rattle.xcf_usable.specs.Usable.{isLayer, isChannel, visible, apply, selection, active, layerFlagsOk, channelFlagsOk, isActiveLayer, isActiveChannel, isSelection, rowBefore, seenAt, masked, noSecond, drawableOk, layerOk, layerFollows, channelOk, maskFollows, channelFollows, allZero, usableRow, usable}
 use Rattle.xcf_usable.proofs.Each.{each}

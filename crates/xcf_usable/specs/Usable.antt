@@ -5,9 +5,9 @@ use mathlib.Core.Bool.{Bool, true, cond, not, _&&_, _||_}
 use lib.Dec.{leb, ltb, eqb}
 use Rattle.xcf_table.specs.declared.Row.{Row}
 use Rattle.xcf_table.specs.Table.{rowSize, tableSize, rowNumbers, unusedRow, rowAt}
-use Rattle.xcf_tile.specs.Grid.{tileCount}
-use Rattle.xcf_read.specs.declared.drawable.Canvas.{Canvas}
-use Rattle.xcf_read.specs.Drawable.{sideOk, typeOk, depthOf}
+use Rattle.xcf_grid.specs.Grid.{tileCount}
+use Rattle.xcf_table.specs.declared.canvas.Canvas.{Canvas}
+use Rattle.xcf_table.specs.Canvas.{sideOk, typeOk, depthOf}
 use Rattle.xcf_usable.specs.declared.seen.Seen.{Seen}
 
 -- a table's rows

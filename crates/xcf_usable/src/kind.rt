@@ -5,12 +5,12 @@ use crate::seen::Seen;
 use crate::seen::is_active_channel;
 use crate::seen::is_active_layer;
 use crate::seen::is_selection;
-use xcf_read::drawable::Canvas;
-use xcf_read::drawable::depth_of;
-use xcf_read::drawable::side_ok;
-use xcf_read::drawable::type_ok;
+use xcf_grid::tile_count;
 use xcf_table::Row;
-use xcf_tile::grid::tile_count;
+use xcf_table::canvas::Canvas;
+use xcf_table::canvas::depth_of;
+use xcf_table::canvas::side_ok;
+use xcf_table::canvas::type_ok;
 
 // No flags but visible, apply mask and active.
 fn layer_flags_ok(row: Row) -> bool

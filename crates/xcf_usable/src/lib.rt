@@ -8,7 +8,7 @@ ghost use Rattle.xcf_usable.specs.Usable.{badRow};
 use crate::row::usable;
 use crate::seen::none;
 use crate::seen::see;
-use xcf_read::drawable::Canvas;
+use xcf_table::canvas::Canvas;
 
 pub const TABLE_ROWS: u32 = 128;
 

@@ -11,9 +11,9 @@ use crate::kind::layer_follows;
 use crate::kind::layer_ok;
 use crate::kind::mask_follows;
 use crate::seen::Seen;
-use xcf_read::drawable::Canvas;
 use xcf_table::ROW_SIZE;
 use xcf_table::Row;
+use xcf_table::canvas::Canvas;
 use xcf_table::row_at;
 
 // Whether row k has a mask.

@@ -1,5 +1,4 @@
 // A record of the input, numbers high byte first: kind (0 decode a tile, 1 encode a tile, 2 encode a stream), width, height,
-// depth and compression, a byte each; the lengths of the source and of the buffer to lend, two bytes each; the source.
 
 // Where a record's source starts and ends, and the call to make with it.
 pub struct Record {

@@ -8,7 +8,7 @@ use native.Mathlib.Omega.{arith}
 use lib.ListN.{length}
 use Rattle.xcf_walk.specs.Walk.{Walk, got, _>>=_, run, bytes, here, fileLength, Turn, turns, loop}
 use Rattle.xcf_walk.specs.Fields.{number, word}
-use Rattle.xcf_walk.specs.declared.property.Properties.{Properties}
+use Rattle.xcf_property.specs.declared.Properties.{Properties}
 use Rattle.xcf_walk.specs.Property.{property, propertyTurn, properties}
 use Rattle.xcf_walk.proofs.Walks.{parted, got-bytes}
 use Rattle.xcf_walk.proofs.Straight.{Straight, straight-forward, straight-first, straight-rest, straight-number, straight-property, straight-property-turn, straight-properties}

@@ -1,15 +1,6 @@
-pub mod Cases
 pub mod Walks
-pub mod Depends
 pub mod Straight
 pub mod Advances
 pub mod Resume
 pub mod Within
-pub mod Parts
 pub mod Loops
-pub mod Refusals
-pub mod RisingLoop
-pub mod Risen
-pub mod Ensures
-pub mod Passes
-pub mod Tails

@@ -9,7 +9,8 @@ use borrow.Author.Tests.{eq-eqb, ne-eqb, eqb-true, eqb-false, leb-true}
 use lib.Dec.{leb, eqb}
 use lib.ListN.{length}
 use Rattle.xcf_walk.specs.declared.cursor.Cursor.{Cursor}
-use Rattle.xcf_walk.specs.Walk.{Outcome, got, refused, Walk, done, _>>=_, part, run, bytes, here, fileLength, jump, must}
+use Rattle.xcf_walk.specs.Walk.{Outcome, got, refused, Walk, done, _>>=_, run, bytes, here, fileLength, jump, must}
+use Rattle.xcf_store.specs.Word.{part}
 use Rattle.xcf_walk.specs.Cursor.{live, checked, jumped, skipped, outcome, resume, Leads, Reads}
 use Rattle.xcf_walk.proofs.Walks.{after, after-cond, run-bind, run-here, run-length}
 

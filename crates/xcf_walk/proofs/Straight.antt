@@ -8,11 +8,13 @@ use mathlib.Core.Bool.{Bool, true, false, cond}
 use mathlib.Core.Logic.{inl, inr, ⊎-elim}
 use native.Mathlib.Omega.{arith}
 use lib.ListN.{length}
-use Rattle.xcf_walk.specs.Walk.{Walk, done, refuse, pass, ask, move, got, _>>=_, part, run, PassedOver, bytes, here, fileLength, must, Turn, more, last, onward, turns, loop}
+use Rattle.xcf_walk.specs.Walk.{Walk, done, refuse, pass, ask, move, got, _>>=_, run, PassedOver, bytes, here, fileLength, must, Turn, more, last, onward, turns, loop}
+use Rattle.xcf_store.specs.Word.{part}
 use Rattle.xcf_walk.specs.Fields.{number, word}
-use Rattle.xcf_walk.specs.declared.property.Properties.{Properties}
-use Rattle.xcf_walk.specs.Property.{payload, colourMap, isColourMap, content, property, propertyTurn, properties}
-use Rattle.xcf_walk.proofs.Cases.{below-or}
+use Rattle.xcf_property.specs.declared.Properties.{Properties}
+use Rattle.xcf_walk.specs.Property.{payload, colourMap, content, property, propertyTurn, properties}
+use Rattle.xcf_property.specs.Property.{isColourMap}
+use Rattle.xcf_laws.proofs.Cases.{below-or}
 use Rattle.xcf_walk.proofs.Walks.{got-not-refused, got-done, got-pass}
 
 -- no step moves to another place

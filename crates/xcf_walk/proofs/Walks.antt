@@ -8,7 +8,8 @@ use native.Mathlib.Omega.{arith}
 use borrow.Author.Tests.{leb-true}
 use lib.Dec.{leb}
 use lib.ListN.{length}
-use Rattle.xcf_walk.specs.Walk.{Outcome, got, refused, Walk, done, refuse, pass, ask, move, _>>=_, part, run, bytes, here, fileLength, must}
+use Rattle.xcf_walk.specs.Walk.{Outcome, got, refused, Walk, done, refuse, pass, ask, move, _>>=_, run, bytes, here, fileLength, must}
+use Rattle.xcf_store.specs.Word.{part}
 
 -- what follows an outcome
 abbrev pub after : {A B : Type 0} → Outcome A → (A → ℕ → Outcome B) → Outcome B

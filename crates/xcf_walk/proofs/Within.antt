@@ -11,10 +11,11 @@ use lib.Dec.{eqb}
 use lib.ListN.{length}
 use Rattle.xcf_walk.specs.declared.cursor.Cursor.{Cursor}
 use Rattle.xcf_walk.specs.declared.cursor.Name.{Name}
-use Rattle.xcf_walk.specs.Walk.{Walk, got, refused, part, run, bytes, here, must}
-use Rattle.xcf_walk.specs.Fields.{bigEndian, number, word, string}
+use Rattle.xcf_walk.specs.Walk.{Walk, got, refused, run, bytes, here, must}
+use Rattle.xcf_store.specs.Word.{part, bigEndian}
+use Rattle.xcf_walk.specs.Fields.{number, word, string}
 use Rattle.xcf_walk.specs.Cursor.{checked, outcome, resume, Leads, Reads, noName}
-use Rattle.xcf_walk.proofs.Cases.{cond-same}
+use Rattle.xcf_laws.proofs.Cases.{cond-same}
 use Rattle.xcf_walk.proofs.Walks.{got-not-refused, parted, got-done, got-bytes, got-here, got-must}
 use Rattle.xcf_walk.proofs.Advances.{Advances}
 use Rattle.xcf_walk.proofs.Resume.{is-live, is-refused}

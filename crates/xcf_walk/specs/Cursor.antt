@@ -7,10 +7,9 @@ use lib.ListN.{length}
 use lib.Dec.{eqb, leb}
 use Rattle.xcf_walk.specs.declared.cursor.Cursor.{Cursor}
 use Rattle.xcf_walk.specs.declared.cursor.Name.{Name}
-use Rattle.xcf_walk.specs.declared.property.Content.{Content}
 use Rattle.xcf_walk.specs.declared.property.Property.{Property}
-use Rattle.xcf_walk.specs.declared.property.Properties.{Properties}
 use Rattle.xcf_walk.specs.Walk.{Outcome, got, refused, Walk, run, Turn, more, last}
+use Rattle.xcf_property.specs.Property.{noContent}
 
 -- a cursor whose number is 0 stands at a place; any other is the refusal of that number and place
 abbrev pub live : {A : Type 0} → Cursor → A → A → A
@@ -47,26 +46,8 @@ pub record Reads {A : Type 0} (c : Cursor) (w : Walk A) (f : List ℕ) (none : A
 abbrev pub noName : Name
 noName = record { place = 0; length = 0 }
 
-abbrev pub noContent : Content
-noContent = record { first = 0; second = 0 }
-
 abbrev pub noProperty : Property
 noProperty = record { kind = 0; start = 0; place = 0; length = 0; content = noContent }
-
-abbrev pub noProperties : Properties
-noProperties = record {
-  compression = 0;
-  unmapped = 0;
-  opacity = 0;
-  mode = 0;
-  visible = 0;
-  apply = 0;
-  dx = 0;
-  dy = 0;
-  active = 0;
-  selection = 0;
-  group = 0;
-}
 
 -- a turn of a loop whose value is its last state
 abbrev pub turnOf : {S : Type 0} → Bool → S → Turn S S

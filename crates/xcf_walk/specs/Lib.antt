@@ -1,5 +1,4 @@
 pub mod Walk
 pub mod Fields
 pub mod Property
-pub mod Rising
 pub mod Cursor

@@ -3,8 +3,9 @@ use Prim.Native.Nat.{ℕ, zero, suc, _+_, _≤_, _<_}
 use mathlib.Core.List.{List}
 use mathlib.Core.Bool.{Bool, true, false, cond}
 use mathlib.Core.Logic.{_⊎_}
-use lib.ListN.{length, take, drop}
+use lib.ListN.{length}
 use lib.Dec.{leb}
+use Rattle.xcf_store.specs.Word.{part}
 
 -- what a walk gives: a value and the place behind it, or a refusal's number and place
 pub data Outcome (A : Type 0) : Type 0 where
@@ -30,10 +31,6 @@ _>>=_ (move p w) k = move p (w >>= k)
 infixl 20 _>>_
 abbrev pub _>>_ : {A B : Type 0} → Walk A → Walk B → Walk B
 _>>_ w v = w >>= λ _. v
-
--- the n bytes from a place on
-abbrev pub part : List ℕ → ℕ → ℕ → List ℕ
-part f at n = take n (drop at f)
 
 -- what a walk gives on the file f from the place at on; bytes that run past the file's end are a 1 at the first of them
 unfoldable pub run : {A : Type 0} → Walk A → List ℕ → ℕ → Outcome A

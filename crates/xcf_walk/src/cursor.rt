@@ -1,11 +1,12 @@
 // A cursor by value: its methods read a word or a string, and hand the moved cursor back.
 ghost use mathlib.Core.Path.{_≡_};
-ghost use Prim.Native.Nat.{_+_, _-_, _≤_};
+ghost use Prim.Native.Nat.{_+_, _-_};
 ghost use lib.ListN.{length, getD};
 ghost use lib.Dec.{eqb};
-ghost use Rattle.xcf_walk.specs.Walk.{part};
-ghost use Rattle.xcf_walk.specs.Fields.{bigEndian, word, wordOf, string};
+ghost use Rattle.xcf_store.specs.Word.{part};
+ghost use Rattle.xcf_walk.specs.Fields.{word, string};
 ghost use Rattle.xcf_walk.specs.Cursor.{live, checked, jumped, skipped, Reads, noName};
+use xcf_store::word::word_at;
 
 // A place in a file while the number is 0; else the first fault's number and place, which every further step keeps.
 pub struct Cursor {
@@ -27,35 +28,6 @@ pub struct Name {
 pub struct NameRead {
     pub name: Name,
     pub cursor: Cursor,
-}
-
-pub(crate) fn wide(b: u8) -> u32
-    ensures { λ r. ⌜ (r ≡ b) × (r ≤ 255) ⌝ }
-{
-    b as u32
-}
-
-pub(crate) fn word_at(file: &[u8], at: usize) -> u32
-    requires { ⌜ at + 4 ≤ length (now file) ⌝ }
-    ensures { λ r. ⌜ r ≡ bigEndian 0 (part (now (file .entry)) at 4) ⌝ }
-{
-    wide(file[at]) * 16777216
-        + wide(file[at + 1]) * 65536
-        + wide(file[at + 2]) * 256
-        + wide(file[at + 3])
-}
-
-// The word at a place, or 0 where it does not lie in the file.
-pub fn word_in(file: &[u8], at: usize) -> u32
-    ensures { λ r. ⌜ r ≡ wordOf (now (file .entry)) at ⌝ }
-{
-    if file.len() < 4 {
-        return 0;
-    }
-    if file.len() - 4 < at {
-        return 0;
-    }
-    word_at(file, at)
 }
 
 // Whether the last of n bytes is zero; of no bytes, and past the file's end, it counts as zero.

@@ -1,4 +1,3 @@
-// A file read front to back from one moving place: words, strings and property lists.
+// xcf_walk
 pub mod cursor;
-pub mod property;
-pub mod rising;
+mod property;

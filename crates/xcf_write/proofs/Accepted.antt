@@ -9,14 +9,13 @@ use native.Mathlib.Omega.{arith}
 use borrow.Author.Tests.{eqb-true, eqb-false, leb-true, ne-eqb}
 use lib.ListN.{length, drop}
 use lib.Dec.{leb, eqb}
-use Rattle.xcf_table.specs.Table.{tableSize}
-use Rattle.xcf_read.specs.declared.drawable.Canvas.{Canvas}
-use Rattle.xcf_read.specs.Drawable.{sideOk}
-use Rattle.xcf_read.specs.Answer.{fileLimit}
+use Rattle.xcf_table.specs.Table.{tableSize, fileLimit}
+use Rattle.xcf_table.specs.declared.canvas.Canvas.{Canvas}
+use Rattle.xcf_table.specs.Canvas.{sideOk}
 use Rattle.xcf_usable.specs.Usable.{tableRows, badRow}
 use Rattle.xcf_write.specs.declared.WriteAnswer.{WriteAnswer}
-use Rattle.xcf_write.specs.File.{pixelsSize}
-use Rattle.xcf_write.specs.Answer.{answered, usedRows, fileOf, rowsRefusal, inputRefusal, writeAnswer, writeOutput, writing, Written}
+use Rattle.xcf_rows.specs.Rows.{pixelsSize, usedRows}
+use Rattle.xcf_write.specs.Answer.{answered, fileOf, rowsRefusal, inputRefusal, writeAnswer, writeOutput, writing, Written}
 use Rattle.xcf_write.specs.Parts.{Fitted}
 
 -- of two answers chosen by a test, number 0 is the first one's where the second is a refusal

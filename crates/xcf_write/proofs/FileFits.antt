@@ -10,13 +10,15 @@ use borrow.Author.Tests.{leb-true}
 use lib.ListN.{length, drop}
 use lib.Seq.{sets-eq}
 use lib.Dec.{leb}
-use Rattle.xcf_encode.specs.Parts.{Put}
-use Rattle.xcf_read.specs.declared.drawable.Canvas.{Canvas}
-use Rattle.xcf_read.specs.Answer.{fileLimit}
+use Rattle.xcf_store.specs.Put.{Put}
+use Rattle.xcf_table.specs.declared.canvas.Canvas.{Canvas}
+use Rattle.xcf_table.specs.Table.{fileLimit}
 use Rattle.xcf_write.specs.declared.WriteAnswer.{WriteAnswer}
-use Rattle.xcf_write.specs.File.{imageSize, fileBytes, drawablesFrom}
-use Rattle.xcf_write.specs.Answer.{answered, usedRows, fileOf}
-use Rattle.xcf_write.specs.Parts.{Ready, endOf, Fitted}
+use Rattle.xcf_write.specs.File.{imageSize, fileBytes}
+use Rattle.xcf_rows.specs.Rows.{drawablesFrom, usedRows}
+use Rattle.xcf_write.specs.Answer.{answered, fileOf}
+use Rattle.xcf_rows.specs.Parts.{Ready, endOf}
+use Rattle.xcf_write.specs.Parts.{Fitted}
 use Rattle.xcf_write.proofs.FileLaws.{file-length}
 use Rattle.xcf_write.proofs.Accepted.{fitted, not-fitted}
 

@@ -4,10 +4,10 @@ use Prim.Native.Nat.{ℕ}
 use mathlib.Core.Path.{_≡_}
 use mathlib.Core.List.{List}
 use borrow.Author.Tests.{eq-eqb, ne-eqb}
-use Rattle.xcf_read.specs.declared.drawable.Canvas.{Canvas}
+use Rattle.xcf_table.specs.declared.canvas.Canvas.{Canvas}
 use Rattle.xcf_usable.specs.Usable.{tableRows, badRow}
-use Rattle.xcf_write.specs.File.{pixelsSize}
-use Rattle.xcf_write.specs.Answer.{answered, usedRows, rowsRefusal}
+use Rattle.xcf_rows.specs.Rows.{pixelsSize, usedRows}
+use Rattle.xcf_write.specs.Answer.{answered, rowsRefusal}
 
 module _ (c : Canvas) (table : List ℕ) (names pixels : ℕ) {bad : ℕ} (e : bad ≡ badRow c names table) where
   pub bad-refused : (bad ≡ tableRows → ⊥) → answered 17 bad 0 ≡ rowsRefusal c table names pixels

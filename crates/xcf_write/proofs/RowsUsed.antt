@@ -11,13 +11,12 @@ use native.Mathlib.Omega.{arith}
 use borrow.Author.Tests.{eqb-false}
 use lib.ListN.{length}
 use Rattle.xcf_table.specs.Table.{rowAt}
-use Rattle.xcf_read.specs.declared.drawable.Canvas.{Canvas}
+use Rattle.xcf_table.specs.declared.canvas.Canvas.{Canvas}
 use Rattle.xcf_usable.specs.Usable.{tableRows, isUnused, badRow}
 use Rattle.xcf_usable.proofs.AllUsable.{all-usable}
 use Rattle.xcf_usable.proofs.RowFacts.{DrawableFacts, drawable-facts}
-use Rattle.xcf_write.specs.File.{usedFrom, pixelsSize}
-use Rattle.xcf_write.specs.Answer.{usedRows}
-use Rattle.xcf_write.specs.Parts.{RowsInRange, Ready}
+use Rattle.xcf_rows.specs.Rows.{usedFrom, pixelsSize, usedRows}
+use Rattle.xcf_rows.specs.Parts.{RowsInRange, Ready}
 
 module _ (table : List ℕ) where
   most-from : (n j : ℕ) → usedFrom table n j ≤ n

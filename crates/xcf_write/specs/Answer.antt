@@ -5,21 +5,17 @@ use mathlib.Core.List.{List, [], _∷_, _++_}
 use mathlib.Core.Bool.{cond, _&&_}
 use lib.ListN.{length, drop}
 use lib.Dec.{leb, eqb}
-use Rattle.xcf_table.specs.Table.{tableSize}
-use Rattle.xcf_read.specs.declared.drawable.Canvas.{Canvas}
-use Rattle.xcf_read.specs.Drawable.{sideOk}
-use Rattle.xcf_read.specs.Answer.{fileLimit}
+use Rattle.xcf_table.specs.Table.{tableSize, fileLimit}
+use Rattle.xcf_table.specs.declared.canvas.Canvas.{Canvas}
+use Rattle.xcf_table.specs.Canvas.{sideOk}
 use Rattle.xcf_usable.specs.Usable.{tableRows, badRow}
 use Rattle.xcf_write.specs.declared.WriteAnswer.{WriteAnswer}
-use Rattle.xcf_write.specs.File.{fileBytes, usedFrom, pixelsSize, drawablesFrom}
+use Rattle.xcf_write.specs.File.{fileBytes}
+use Rattle.xcf_rows.specs.Rows.{pixelsSize, drawablesFrom, usedRows}
 
 -- a number, its place and a length
 abbrev pub answered : ℕ → ℕ → ℕ → WriteAnswer
 answered n p size = record { number = n; place = p; length = size }
-
--- the rows that are used, and the file that they are written as
-abbrev pub usedRows : List ℕ → ℕ
-usedRows table = usedFrom table tableRows 0
 
 unfoldable pub fileOf : Canvas → List ℕ → List ℕ → List ℕ → List ℕ
 fileOf c table names pixels = fileBytes c (drawablesFrom table (usedRows table) 0 names pixels)

@@ -1,4 +1,3 @@
-pub mod Structure
 pub mod File
 pub mod Answer
 pub mod Parts

@@ -3,11 +3,11 @@ ghost use mathlib.Core.Path.{_≡_};
 ghost use Rattle.xcf_write.specs.Answer.{answered, rowsRefusal, inputRefusal};
 use crate::WriteAnswer;
 use crate::answered;
-use crate::rows::pixels_size;
-use crate::rows::used_rows;
-use xcf_read::drawable::Canvas;
-use xcf_read::drawable::side_ok;
+use xcf_rows::pixels_size;
+use xcf_rows::used_rows;
 use xcf_table::TABLE_SIZE;
+use xcf_table::canvas::Canvas;
+use xcf_table::canvas::side_ok;
 use xcf_usable::TABLE_ROWS;
 use xcf_usable::bad_row;
 

@@ -2,22 +2,21 @@
 ghost use mathlib.Core.Path.{_≡_};
 ghost use Prim.Native.Nat.{_≤_};
 ghost use lib.ListN.{length};
-ghost use Rattle.xcf_encode.specs.Parts.{Put};
-ghost use Rattle.xcf_read.specs.Answer.{fileLimit};
-ghost use Rattle.xcf_write.specs.File.{imageSize, fileBytes, drawablesFrom};
-ghost use Rattle.xcf_write.specs.Answer.{usedRows};
-ghost use Rattle.xcf_write.specs.Parts.{Ready, endOf, Placed, Fitted};
+ghost use Rattle.xcf_store.specs.Put.{Put};
+ghost use Rattle.xcf_table.specs.Table.{fileLimit};
+ghost use Rattle.xcf_write.specs.File.{imageSize, fileBytes};
+ghost use Rattle.xcf_rows.specs.Rows.{drawablesFrom, usedRows};
+ghost use Rattle.xcf_rows.specs.Parts.{Ready, endOf, Placed};
+ghost use Rattle.xcf_write.specs.Parts.{Fitted};
 use crate::WriteAnswer;
 use crate::answered;
-use crate::image::image_size;
-use crate::image::put_image;
-use crate::rows::measure_rows;
-use crate::rows::put_rows;
-use crate::rows::used_rows;
-use crate::tile::ENCODED_SIZE;
-use crate::tile::TILE_SIZE;
-use xcf_read::FILE_LIMIT;
-use xcf_read::drawable::Canvas;
+use xcf_image::image_size;
+use xcf_image::put_image;
+use xcf_rows::measure_rows;
+use xcf_rows::put_rows;
+use xcf_rows::used_rows;
+use xcf_table::FILE_LIMIT;
+use xcf_table::canvas::Canvas;
 
 // The image's structure and the first n rows' drawables behind it, whose places are measured.
 fn put_file(
@@ -29,18 +28,17 @@ fn put_file(
     names: &[u8],
     pixels: &[u8],
     places: &[usize],
-    tile: &mut [u8],
 ) -> usize
-    requires { ⌜ Ready (now table) (now names) (now pixels) n × ((length (now places) ≡ 129) × (length (now tile) ≡ 16384)) ⌝ }
+    requires { ⌜ Ready (now table) (now names) (now pixels) n × (length (now places) ≡ 129) ⌝ }
     requires { ⌜ Placed (now places) 0 (drawablesFrom (now table) n 0 (now names) (now pixels)) start × (start ≡ imageSize canvas (drawablesFrom (now table) n 0 (now names) (now pixels))) ⌝ }
     requires { ⌜ (endOf (drawablesFrom (now table) n 0 (now names) (now pixels)) start ≤ length (now output)) × (endOf (drawablesFrom (now table) n 0 (now names) (now pixels)) start ≤ fileLimit) ⌝ }
     ensures { λ r. ⌜ Put (now (output .entry)) 0 (fileBytes canvas (drawablesFrom (now (table .entry)) n 0 (now (names .entry)) (now (pixels .entry)))) r (now (output .exit)) ⌝ }
 {
     put_image(output, canvas, table, n, places);
-    put_rows(output, start, table, n, names, pixels, places, tile)
+    put_rows(output, start, table, n, names, pixels, places)
 }
 
-// The file of the first n rows, with room for their places, for one tile and for its encoding.
+// The file of the first n rows, with room for their places.
 fn write_within(
     canvas: Canvas,
     table: &[u32],
@@ -48,18 +46,16 @@ fn write_within(
     names: &[u8],
     pixels: &[u8],
     places: &mut [usize],
-    tile: &mut [u8],
-    encoded: &mut [u8],
     output: &mut [u8],
 ) -> WriteAnswer
     requires { ⌜ Ready (now table) (now names) (now pixels) n × (n ≡ usedRows (now table)) ⌝ }
-    requires { ⌜ (length (now places) ≡ 129) × ((length (now tile) ≡ 16384) × (length (now encoded) ≡ 16644)) ⌝ }
+    requires { ⌜ length (now places) ≡ 129 ⌝ }
     ensures { λ r. ⌜ Fitted canvas (now (table .entry)) (now (names .entry)) (now (pixels .entry)) (now (output .entry)) r (now (output .exit)) ⌝ }
 {
     let start = image_size(canvas, table, n);
-    let size = measure_rows(table, n, names, pixels, start, places, tile, encoded);
+    let size = measure_rows(table, n, names, pixels, start, places);
     if (size <= output.len()) & (size <= FILE_LIMIT) {
-        put_file(output, start, canvas, table, n, names, pixels, places, tile);
+        put_file(output, start, canvas, table, n, names, pixels, places);
         return answered(0, 0, size as u64);
     }
     answered(18, 0, 0)
@@ -77,18 +73,6 @@ pub(crate) fn write_file(
     ensures { λ r. ⌜ Fitted canvas (now (table .entry)) (now (names .entry)) (now (pixels .entry)) (now (output .entry)) r (now (output .exit)) ⌝ }
 {
     let mut places = [0usize; 129];
-    let mut tile = [0u8; TILE_SIZE];
-    let mut encoded = [0u8; ENCODED_SIZE];
     let n = used_rows(table);
-    write_within(
-        canvas,
-        table,
-        n,
-        names,
-        pixels,
-        &mut places,
-        &mut tile,
-        &mut encoded,
-        output,
-    )
+    write_within(canvas, table, n, names, pixels, &mut places, output)
 }

@@ -1,18 +1,12 @@
 // An XCF file, written from rows, names and pixels.
 mod check;
-mod drawable;
 mod file;
-mod image;
-mod put;
-mod rows;
-mod structure;
-mod tile;
 
 ghost use mathlib.Core.Path.{_≡_};
 ghost use Rattle.xcf_write.specs.Answer.{answered, Written};
 use crate::check::input_refusal;
 use crate::file::write_file;
-use xcf_read::drawable::Canvas;
+use xcf_table::canvas::Canvas;
 
 #[repr(C)]
 pub struct WriteAnswer {

@@ -2,8 +2,8 @@
 use mathlib.Core.Path.{_≡_, sym, _∙_}
 use borrow.Author.Needs.{needs}
 use lib.ListN.{length}
-use Rattle.xcf_read.specs.Hierarchy.{pointerSize}
-use Rattle.xcf_decode.specs.Answer.{rowRefusal}
+use Rattle.xcf_parse.specs.Hierarchy.{pointerSize}
+use Rattle.xcf_window.specs.Usable.{rowRefusal}
 use Rattle.xcf_decode.proofs.Usable.{row-usable, row-ready}
 use Rattle.xcf_decode.proofs.Answered.{counts-no-row, counts-no-pointers, counts-row}
 use Rattle.xcf_decode.proofs.count_marked.Statement.{statement}

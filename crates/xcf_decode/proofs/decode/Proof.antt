@@ -2,9 +2,9 @@
 use mathlib.Core.Path.{_≡_, sym, _∙_}
 use borrow.Author.Needs.{needs}
 use lib.ListN.{length}
-use Rattle.xcf_read.specs.Hierarchy.{pointerSize}
-use Rattle.xcf_decode.specs.Answer.{rowRefusal}
-use Rattle.xcf_decode.specs.Parts.{Usable}
+use Rattle.xcf_parse.specs.Hierarchy.{pointerSize}
+use Rattle.xcf_window.specs.Usable.{rowRefusal}
+use Rattle.xcf_window.specs.Parts.{Usable}
 use Rattle.xcf_decode.proofs.Usable.{row-usable, row-ready, fit-lengths}
 use Rattle.xcf_decode.proofs.Answered.{decodes-no-row, decodes-no-fit, decodes-no-pointers, decodes-row}
 use Rattle.xcf_decode.proofs.decode.Statement.{statement}

@@ -5,7 +5,8 @@ use Prim.Native.Nat.{_*_, _≤_}
 use native.Mathlib.Omega.{arith}
 use borrow.Author.Needs.{needs}
 use Rattle.xcf_encode.proofs.Answers.{unusable, other-length, tile-fitted}
-use Rattle.xcf_tile.proofs.Sizes.{usable-bounds, small}
+use Rattle.xcf_tile.proofs.Sizes.{usable-bounds}
+use Rattle.xcf_laws.proofs.Products.{small}
 use Rattle.xcf_encode.proofs.encode_tile.Statement.{statement}
 use Rattle.xcf_encode.proofs.encode_tile.Tie as tie
 

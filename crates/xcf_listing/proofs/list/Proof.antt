@@ -2,7 +2,7 @@
 -- whose lines fit the text.
 use native.Mathlib.Omega.{arith}
 use borrow.Author.Needs.{needs}
-use Rattle.xcf_listing.proofs.Written.{puts-then}
+use Rattle.xcf_text.proofs.Written.{puts-then}
 use Rattle.xcf_listing.proofs.Listed.{Listable, listable, lists-none, lists-long, lists-refused, lists-accepted, lists-counted}
 use Rattle.xcf_listing.proofs.list.Statement.{statement}
 use Rattle.xcf_listing.proofs.list.Tie as tie

@@ -1,6 +1,4 @@
 -- `clear_from` meets its contract: at the loop's head, what stands in front with zeros behind it is what is to be left.
-use Rattle.xcf_table.proofs.clear_from.Statement.{statement}
-use Rattle.xcf_table.proofs.clear_from.Tie as tie
 use borrow.Author.Needs.{needs}
 use mathlib.Core.Path.{_≡_, refl, _∙_}
 use mathlib.Core.List.{List, _++_, append-nil}
@@ -9,6 +7,8 @@ use native.Mathlib.Numerals.{add-one}
 use native.Mathlib.Omega.{arith}
 use lib.ListN.{length, take, replicate, set, length-set}
 use lib.Seq.{append-snoc, take-all, take-suc-set}
+use Rattle.xcf_table.proofs.clear_from.Statement.{statement}
+use Rattle.xcf_table.proofs.clear_from.Tie as tie
 use Rattle.xcf_table.specs.Table.{rowSize, clearFrom}
 
 -- a number cleared is one zero less to come

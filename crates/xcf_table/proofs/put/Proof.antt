@@ -1,6 +1,4 @@
 -- `put` meets its contract: at the loop's head, the first i numbers of the row stand in the table.
-use Rattle.xcf_table.proofs.put.Statement.{statement}
-use Rattle.xcf_table.proofs.put.Tie as tie
 use borrow.Author.Needs.{needs}
 use mathlib.Core.Path.{_≡_, refl, _∙_, ap}
 use mathlib.Core.List.{List}
@@ -9,6 +7,8 @@ use native.Mathlib.Numerals.{add-one}
 use native.Mathlib.Omega.{arith}
 use lib.ListN.{length, getD, set, length-set}
 use lib.Seq.{paste, paste-zero, paste-suc}
+use Rattle.xcf_table.proofs.put.Statement.{statement}
+use Rattle.xcf_table.proofs.put.Tie as tie
 
 abbrev Inv-loop : tie.InvT-loop
 Inv-loop table₀ at row i₀ table i = (i ≤ 16) × (length table ≡ length table₀) × (table ≡ paste table₀ at row i)

@@ -3,8 +3,8 @@ use Prim.Native.Nat.{_+_, _*_}
 use native.Mathlib.Omega.{arith}
 use borrow.Author.Tests.{le-leb, lt-leb}
 use lib.ListN.{length}
-use Rattle.xcf_table.specs.Table.{rowSize, putRow}
 use borrow.Author.Needs.{needs}
+use Rattle.xcf_table.specs.Table.{rowSize, putRow}
 use Rattle.xcf_table.proofs.put_row.Statement.{statement}
 use Rattle.xcf_table.proofs.put_row.Tie as tie
 

@@ -3,8 +3,8 @@ use Prim.Native.Nat.{_+_, _*_}
 use native.Mathlib.Omega.{arith}
 use borrow.Author.Tests.{le-leb, lt-leb}
 use lib.ListN.{length}
-use Rattle.xcf_table.specs.Table.{rowSize, rowAt}
 use borrow.Author.Needs.{needs}
+use Rattle.xcf_table.specs.Table.{rowSize, rowAt}
 use Rattle.xcf_table.proofs.row_at.Statement.{statement}
 use Rattle.xcf_table.proofs.row_at.Tie as tie
 

@@ -1,8 +1,8 @@
 -- `decode_plain` meets its contract: the window's bytes where there are enough, else zeros.
 use native.Mathlib.Omega.{arith}
 use lib.ListN.{length-take}
-use Rattle.xcf_tile.proofs.Whole.{copied, plain-short, plain-whole}
 use borrow.Author.Needs.{needs}
+use Rattle.xcf_tile.proofs.Whole.{copied, plain-short, plain-whole}
 use Rattle.xcf_tile.proofs.decode_plain.Statement.{statement}
 use Rattle.xcf_tile.proofs.decode_plain.Tie as tie
 

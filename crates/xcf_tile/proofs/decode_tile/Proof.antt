@@ -5,7 +5,7 @@ use borrow.Author.Needs.{needs}
 use borrow.Author.Tests.{ne-eqb}
 use Rattle.xcf_tile.specs.Tile.{tileOf}
 use Rattle.xcf_tile.specs.Answer.{decodeAnswer, decodePixels}
-use Rattle.xcf_tile.proofs.Sizes.{small}
+use Rattle.xcf_laws.proofs.Products.{small}
 use Rattle.xcf_tile.proofs.decode_tile.Statement.{statement}
 use Rattle.xcf_tile.proofs.decode_tile.Tie as tie
 

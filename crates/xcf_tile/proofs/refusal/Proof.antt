@@ -4,7 +4,8 @@ use native.Mathlib.Omega.{arith}
 use borrow.Author.Needs.{needs}
 use borrow.Author.Tests.{le-leb, lt-leb, eq-eqb, ne-eqb}
 use Rattle.xcf_tile.specs.Answer.{decodeRefusal}
-use Rattle.xcf_tile.proofs.Sizes.{usable-bounds, small}
+use Rattle.xcf_tile.proofs.Sizes.{usable-bounds}
+use Rattle.xcf_laws.proofs.Products.{small}
 use Rattle.xcf_tile.proofs.refusal.Statement.{statement}
 use Rattle.xcf_tile.proofs.refusal.Tie as tie
 

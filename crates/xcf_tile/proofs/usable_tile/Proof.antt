@@ -1,7 +1,7 @@
 -- `usable_tile` meets its contract: each test that is passed or failed is one of the definition's, in its order.
 use borrow.Author.Needs.{needs}
 use Rattle.xcf_tile.specs.Answer.{usableTile}
-use Rattle.xcf_tile.proofs.Sizes.{is-within, is-outside}
+use Rattle.xcf_range.proofs.Bounds.{is-within, is-outside}
 use Rattle.xcf_tile.proofs.usable_tile.Statement.{statement}
 use Rattle.xcf_tile.proofs.usable_tile.Tie as tie
 

@@ -3,11 +3,11 @@
 use Prim.Native.Nat.{_≤_}
 use mathlib.Core.Path.{_∙_}
 use native.Mathlib.Omega.{arith}
+use borrow.Author.Needs.{needs}
 use Rattle.xcf_walk.proofs.Resume.{then, ends}
 use Rattle.xcf_walk.proofs.Within.{live-before}
 use Rattle.xcf_read.specs.Image.{canvasOf, image}
 use Rattle.xcf_read.specs.Parts.{drawable, rowsMost}
-use borrow.Author.Needs.{needs}
 use Rattle.xcf_read.proofs.image.image.Statement.{statement}
 use Rattle.xcf_read.proofs.image.image.Tie as tie
 

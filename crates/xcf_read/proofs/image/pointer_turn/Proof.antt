@@ -1,7 +1,7 @@
 -- `pointer_turn` meets its contract, by its word: a 0, as also stands beside a refusal, ends the walk (`turn-closed`);
 -- a pointer is read, or refused where none is left (`turn-read`).
-use Rattle.xcf_read.proofs.PointersLoop.{turn-closed, turn-read}
 use borrow.Author.Needs.{needs}
+use Rattle.xcf_read.proofs.PointersLoop.{turn-closed, turn-read}
 use Rattle.xcf_read.proofs.image.pointer_turn.Statement.{statement}
 use Rattle.xcf_read.proofs.image.pointer_turn.Tie as tie
 

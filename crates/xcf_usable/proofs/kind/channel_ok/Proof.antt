@@ -1,6 +1,6 @@
 -- `channel_ok` meets its contract: test by test, as the calls ensure.
-use Rattle.xcf_usable.specs.Usable.{channelOk}
 use borrow.Author.Needs.{needs}
+use Rattle.xcf_usable.specs.Usable.{channelOk}
 use Rattle.xcf_usable.proofs.kind.channel_ok.Statement.{statement}
 use Rattle.xcf_usable.proofs.kind.channel_ok.Tie as tie
 

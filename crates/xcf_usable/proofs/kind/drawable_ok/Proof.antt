@@ -1,6 +1,6 @@
 -- `drawable_ok` meets its contract: test by test, as the calls ensure.
-use Rattle.xcf_usable.specs.Usable.{drawableOk}
 use borrow.Author.Needs.{needs}
+use Rattle.xcf_usable.specs.Usable.{drawableOk}
 use Rattle.xcf_usable.proofs.kind.drawable_ok.Statement.{statement}
 use Rattle.xcf_usable.proofs.kind.drawable_ok.Tie as tie
 

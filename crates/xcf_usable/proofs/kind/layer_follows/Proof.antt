@@ -1,6 +1,6 @@
 -- `layer_follows` meets its contract: test by test, as the call ensures.
-use Rattle.xcf_usable.specs.Usable.{layerFollows}
 use borrow.Author.Needs.{needs}
+use Rattle.xcf_usable.specs.Usable.{layerFollows}
 use Rattle.xcf_usable.proofs.kind.layer_follows.Statement.{statement}
 use Rattle.xcf_usable.proofs.kind.layer_follows.Tie as tie
 

@@ -1,6 +1,6 @@
 -- `layer_ok` meets its contract: test by test, as the calls ensure.
-use Rattle.xcf_usable.specs.Usable.{layerOk}
 use borrow.Author.Needs.{needs}
+use Rattle.xcf_usable.specs.Usable.{layerOk}
 use Rattle.xcf_usable.proofs.kind.layer_ok.Statement.{statement}
 use Rattle.xcf_usable.proofs.kind.layer_ok.Tie as tie
 

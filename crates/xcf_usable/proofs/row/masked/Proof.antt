@@ -1,7 +1,7 @@
 -- `masked` meets its contract, by whether the table has a row k.
 use borrow.Author.Tests.{lt-ltb, le-ltb}
-use Rattle.xcf_usable.specs.Usable.{masked}
 use borrow.Author.Needs.{needs}
+use Rattle.xcf_usable.specs.Usable.{masked}
 use Rattle.xcf_usable.proofs.row.masked.Statement.{statement}
 use Rattle.xcf_usable.proofs.row.masked.Tie as tie
 

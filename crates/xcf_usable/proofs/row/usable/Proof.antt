@@ -1,9 +1,9 @@
 -- `usable` meets its contract, by whether row k is used.
 use mathlib.Core.Path.{_≡_}
 use borrow.Author.Tests.{eq-eqb}
+use borrow.Author.Needs.{needs}
 use Rattle.xcf_table.specs.Table.{rowAt}
 use Rattle.xcf_usable.specs.Usable.{usableRow}
-use borrow.Author.Needs.{needs}
 use Rattle.xcf_usable.proofs.row.usable.Statement.{statement}
 use Rattle.xcf_usable.proofs.row.usable.Tie as tie
 

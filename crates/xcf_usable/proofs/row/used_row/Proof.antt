@@ -1,8 +1,8 @@
 -- `used_row` meets its contract, by the row's kind; each part is what its call ensures.
 use native.Mathlib.Omega.{arith}
 use borrow.Author.Tests.{eq-eqb, ne-eqb}
-use Rattle.xcf_usable.specs.Usable.{usableRow}
 use borrow.Author.Needs.{needs}
+use Rattle.xcf_usable.specs.Usable.{usableRow}
 use Rattle.xcf_usable.proofs.row.used_row.Statement.{statement}
 use Rattle.xcf_usable.proofs.row.used_row.Tie as tie
 

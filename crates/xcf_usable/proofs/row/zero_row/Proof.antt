@@ -4,10 +4,10 @@ use mathlib.Core.Path.{_≡_, sym, _∙_, ap}
 use native.Mathlib.Omega.{arith}
 use borrow.Author.Tests.{lt-leb}
 use lib.ListN.{length}
+use borrow.Author.Needs.{needs}
 use Rattle.xcf_table.specs.Table.{rowSize, rowAt}
 use Rattle.xcf_usable.specs.Usable.{allZero}
 use Rattle.xcf_usable.proofs.ZeroRow.{row-part}
-use borrow.Author.Needs.{needs}
 use Rattle.xcf_usable.proofs.row.zero_row.Statement.{statement}
 use Rattle.xcf_usable.proofs.row.zero_row.Tie as tie
 

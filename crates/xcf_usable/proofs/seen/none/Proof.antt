@@ -1,6 +1,6 @@
 -- `none` meets its contract: every count is 0.
-use Rattle.xcf_usable.specs.Usable.{before, rowBefore, seenAt}
 use borrow.Author.Needs.{needs}
+use Rattle.xcf_usable.specs.Usable.{before, rowBefore, seenAt}
 use Rattle.xcf_usable.proofs.seen.none.Statement.{statement}
 use Rattle.xcf_usable.proofs.seen.none.Tie as tie
 

@@ -4,8 +4,8 @@ use mathlib.Core.Path.{_≡_}
 use mathlib.Core.Bool.{Bool, cond}
 use native.Mathlib.Omega.{arith}
 use lib.Dec.{eqb}
-use Rattle.xcf_usable.proofs.Counts.{seen-next, one-most, CountsMost, seen-most}
 use borrow.Author.Needs.{needs}
+use Rattle.xcf_usable.proofs.Counts.{seen-next, one-most, CountsMost, seen-most}
 use Rattle.xcf_usable.proofs.seen.see.Statement.{statement}
 use Rattle.xcf_usable.proofs.seen.see.Tie as tie
 

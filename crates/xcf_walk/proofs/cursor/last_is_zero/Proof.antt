@@ -4,8 +4,8 @@ use Prim.Native.Nat.{_-_}
 use mathlib.Core.Path.{sym, ap}
 use native.Mathlib.Omega.{arith}
 use lib.Dec.{eqb}
-use Rattle.xcf_walk.proofs.Parts.{part-at, part-last-none}
 use borrow.Author.Needs.{needs}
+use Rattle.xcf_store.proofs.Parts.{part-at, part-last-none}
 use Rattle.xcf_walk.proofs.cursor.last_is_zero.Statement.{statement}
 use Rattle.xcf_walk.proofs.cursor.last_is_zero.Tie as tie
 

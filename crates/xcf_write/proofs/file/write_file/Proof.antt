@@ -1,4 +1,4 @@
--- `write_file` meets its contract: the used rows are as many as the table holds at most, and there is room for a tile.
+-- `write_file` meets its contract: the used rows are as many as the table holds at most.
 use mathlib.Core.Path.{refl}
 use borrow.Author.Needs.{needs}
 use Rattle.xcf_write.proofs.file.write_file.Statement.{statement}
@@ -10,17 +10,11 @@ used-rows-requires c κs = search needs
 slice-aggregate-write-within : tie.Need-slice-aggregate-write-within
 slice-aggregate-write-within c = search needs
 
-slice-aggregate-write-within-2 : tie.Need-slice-aggregate-write-within-2
-slice-aggregate-write-within-2 c = search needs
-
-slice-aggregate-write-within-3 : tie.Need-slice-aggregate-write-within-3
-slice-aggregate-write-within-3 c = search needs
-
 write-within-requires : tie.Need-write-within-requires
 write-within-requires c κs =
-    let u = c .before .before .before .before in
+    let u = c .before .before in
     let e = u .used-rows .ensures .0 in
-    ((rw (← e) at (u .before .before .before .before .before .pre), e), (refl, (refl, refl)))
+    ((rw (← e) at (u .before .before .before .before .before .pre), e), refl)
 
 same-length : tie.Need-same-length
 same-length c = search needs
@@ -34,8 +28,6 @@ write-file-spec =
     (tie.spec
     used-rows-requires
     slice-aggregate-write-within
-    slice-aggregate-write-within-2
-    slice-aggregate-write-within-3
     write-within-requires
     same-length
     returns)

@@ -2,10 +2,10 @@
 -- beside a refusal stands no content.
 use mathlib.Core.Path.{refl}
 use native.Mathlib.Omega.{arith}
+use borrow.Author.Needs.{needs}
 use Rattle.xcf_walk.specs.Property.{colourMap}
 use Rattle.xcf_walk.specs.Cursor.{Leads}
 use Rattle.xcf_walk.proofs.Resume.{then, then-here, ends, by-skip, by-check, reads-live, reads-none}
-use borrow.Author.Needs.{needs}
 use Rattle.xcf_walk.proofs.cursor.Cursor.colour_map.Statement.{statement}
 use Rattle.xcf_walk.proofs.cursor.Cursor.colour_map.Tie as tie
 

@@ -1,6 +1,6 @@
 -- `content` meets its contract, by whether it is the image's colour map: what `colour_map` and `payload` promise.
-use Rattle.xcf_walk.specs.Property.{content}
 use borrow.Author.Needs.{needs}
+use Rattle.xcf_walk.specs.Property.{content}
 use Rattle.xcf_walk.proofs.cursor.Cursor.content.Statement.{statement}
 use Rattle.xcf_walk.proofs.cursor.Cursor.content.Tie as tie
 

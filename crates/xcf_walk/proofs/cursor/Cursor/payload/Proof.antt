@@ -1,11 +1,12 @@
 -- `payload` meets its contract: its check and skip are the walk's (`leads`), and `content_of` reads what was skipped;
 -- beside a refusal stands no content.
 use native.Mathlib.Omega.{arith}
-use Rattle.xcf_walk.specs.Walk.{part}
-use Rattle.xcf_walk.specs.Property.{contentOf, payload}
+use borrow.Author.Needs.{needs}
+use Rattle.xcf_store.specs.Word.{part}
+use Rattle.xcf_property.specs.Property.{contentOf}
+use Rattle.xcf_walk.specs.Property.{payload}
 use Rattle.xcf_walk.specs.Cursor.{Leads}
 use Rattle.xcf_walk.proofs.Resume.{then, ends, by-skip, by-check, skip-fits, reads-live, reads-none}
-use borrow.Author.Needs.{needs}
 use Rattle.xcf_walk.proofs.cursor.Cursor.payload.Statement.{statement}
 use Rattle.xcf_walk.proofs.cursor.Cursor.payload.Tie as tie
 

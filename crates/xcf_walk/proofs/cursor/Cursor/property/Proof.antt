@@ -1,10 +1,10 @@
 -- `property` meets its contract: two words and the content, each with its place, are the walk's do block (`leads`);
 -- beside a refusal stands no property.
 use mathlib.Core.Path.{refl}
+use borrow.Author.Needs.{needs}
 use Rattle.xcf_walk.specs.Property.{property}
 use Rattle.xcf_walk.specs.Cursor.{Leads}
 use Rattle.xcf_walk.proofs.Resume.{then, then-here, ends, reads-live, reads-none}
-use borrow.Author.Needs.{needs}
 use Rattle.xcf_walk.proofs.cursor.Cursor.property.Statement.{statement}
 use Rattle.xcf_walk.proofs.cursor.Cursor.property.Tie as tie
 

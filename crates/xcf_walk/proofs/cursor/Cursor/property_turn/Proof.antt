@@ -4,13 +4,13 @@ use mathlib.Core.Bool.{not}
 use native.Mathlib.Omega.{arith}
 use borrow.Author.Tests.{eqb-true}
 use lib.Dec.{eqb}
+use borrow.Author.Needs.{needs}
 use Rattle.xcf_walk.specs.Property.{propertyTurn}
 use Rattle.xcf_walk.specs.Cursor.{Leads, turnOf}
-use Rattle.xcf_walk.proofs.Cases.{cond-not}
+use Rattle.xcf_laws.proofs.Cases.{cond-not}
 use Rattle.xcf_walk.proofs.Resume.{then, ends, by-check, any-value}
 use Rattle.xcf_walk.proofs.Advances.{advances-property-turn}
 use Rattle.xcf_walk.proofs.Within.{moves-on}
-use borrow.Author.Needs.{needs}
 use Rattle.xcf_walk.proofs.cursor.Cursor.property_turn.Statement.{statement}
 use Rattle.xcf_walk.proofs.cursor.Cursor.property_turn.Tie as tie
 

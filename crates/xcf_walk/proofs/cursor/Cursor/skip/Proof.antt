@@ -3,8 +3,8 @@ use Prim.Native.Nat.{_+_}
 use native.Mathlib.Omega.{arith}
 use lib.ListN.{length}
 use borrow.Author.Tests.{eq-eqb, ne-eqb, le-leb, lt-leb}
-use Rattle.xcf_walk.specs.Cursor.{skipped}
 use borrow.Author.Needs.{needs}
+use Rattle.xcf_walk.specs.Cursor.{skipped}
 use Rattle.xcf_walk.proofs.cursor.Cursor.skip.Statement.{statement}
 use Rattle.xcf_walk.proofs.cursor.Cursor.skip.Tie as tie
 

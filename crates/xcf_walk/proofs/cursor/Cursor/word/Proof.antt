@@ -3,12 +3,12 @@
 use Prim.Native.Nat.{ℕ}
 use mathlib.Core.Path.{_≡_}
 use mathlib.Core.List.{List}
+use borrow.Author.Needs.{needs}
 use Rattle.xcf_walk.specs.declared.cursor.Cursor.{Cursor}
-use Rattle.xcf_walk.specs.Walk.{part}
-use Rattle.xcf_walk.specs.Fields.{bigEndian, word, number}
+use Rattle.xcf_store.specs.Word.{part, bigEndian}
+use Rattle.xcf_walk.specs.Fields.{word, number}
 use Rattle.xcf_walk.specs.Cursor.{Leads, skipped}
 use Rattle.xcf_walk.proofs.Resume.{then, ends, by-skip, skip-fits, reads-live, reads-none}
-use borrow.Author.Needs.{needs}
 use Rattle.xcf_walk.proofs.cursor.Cursor.word.Statement.{statement}
 use Rattle.xcf_walk.proofs.cursor.Cursor.word.Tie as tie
 

@@ -1,4 +1,0 @@
-pub mod ExampleRead
-pub mod ExampleWritten
-pub mod ExampleDamaged
-pub mod Theorems

@@ -1,0 +1,1 @@
+// What was encoded is read back: statements and proofs only.

@@ -1,0 +1,15 @@
+pub mod Grid
+pub mod Places
+pub mod Tabulated
+pub mod Pasted
+pub mod PutLines
+pub mod PutFrame
+pub mod PutTile
+pub mod PixelBytes
+pub mod Shown
+pub mod PixelLaws
+pub mod LinesLoop
+pub mod PutRoom
+pub mod FewTiles
+pub mod TakeLines
+pub mod Lines

@@ -1,0 +1,89 @@
+-- `put_lines` meets its contract: `Going` holds at the loop's head, and a line put keeps it.
+use Prim.Native.Nat.{_<_}
+use native.Mathlib.Omega.{arith}
+use lib.ListN.{length-take, length-drop}
+use Rattle.xcf_grid.proofs.LinesLoop.{Going, going-start, next-line, line-copied, going-line, going-over}
+use Rattle.xcf_grid.proofs.put.put_lines.Statement.{statement}
+use Rattle.xcf_grid.proofs.put.put_lines.Tie as tie
+
+abbrev Inv-loop : tie.InvT-loop
+Inv-loop tile line n pixels₀ at stride from₀ to₀ rest₀ pixels from to rest = Going pixels₀ at stride tile line n pixels to from rest
+
+abbrev μ-loop : tie.MeasureT-loop
+μ-loop tile line n pixels₀ at stride from₀ to₀ rest₀ pixels from to rest = rest
+
+loop-holds : tie.Need-loop-holds Inv-loop μ-loop
+loop-holds c = going-start (c .before .before .pre)
+
+add-end : tie.Need-add-end Inv-loop μ-loop
+add-end c = omega (arith, next-line (c .before .loop .inv) (omega (arith, c .loop-test .taken)))
+
+sub-copy : tie.Need-sub-copy Inv-loop μ-loop
+sub-copy c = omega arith
+
+part-copy-start : tie.Need-part-copy-start Inv-loop μ-loop
+part-copy-start c = omega arith
+
+part-copy-end : tie.Need-part-copy-end Inv-loop μ-loop
+part-copy-end c = omega (arith, next-line (c .before .loop .inv) (omega (arith, c .loop-test .taken)))
+
+sub-copy-2 : tie.Need-sub-copy-2 Inv-loop μ-loop
+sub-copy-2 c = omega (arith, next-line (c .before .before .loop .inv) (omega (arith, c .before .loop-test .taken)))
+
+part-copy-start-2 : tie.Need-part-copy-start-2 Inv-loop μ-loop
+part-copy-start-2 c = omega (arith, next-line (c .before .before .loop .inv) (omega (arith, c .before .loop-test .taken)))
+
+part-copy-end-2 : tie.Need-part-copy-end-2 Inv-loop μ-loop
+part-copy-end-2 c = omega arith
+
+copy-requires : tie.Need-copy-requires Inv-loop μ-loop
+copy-requires c κs =
+    let next = next-line (c .before .before .before .loop .inv) (omega (arith, c .before .before .loop-test .taken)) in
+    simp (length-take, length-drop) (omega (arith, next))
+
+add-to : tie.Need-add-to Inv-loop μ-loop
+add-to c =
+    let g = c .before .before .before .before .before .before .loop .inv in
+    omega (arith, next-line g (omega (arith, c .before .before .before .before .before .loop-test .taken)), g .room .small)
+
+sub-rest : tie.Need-sub-rest Inv-loop μ-loop
+sub-rest c = omega arith
+
+loop-less : tie.Need-loop-less Inv-loop μ-loop
+loop-less c = omega arith
+
+loop-again : tie.Need-loop-again Inv-loop μ-loop
+loop-again c =
+    let l = c .before .before .before .before .before .before .loop in
+    let some : 0 < l .rest = omega (arith, c .before .before .before .before .before .loop-test .taken) in
+    let next = next-line (l .inv) some in
+    rw (c .before .before .copy .ensures .1, line-copied (l .pixels) (l .to) _ (l .from) _ (next .0) (next .1))
+    (going-line (l .inv) some)
+
+same-length : tie.Need-same-length Inv-loop μ-loop
+same-length c = c .before .loop .inv .same
+
+returns : tie.Need-returns Inv-loop μ-loop
+returns c = going-over (c .before .loop .inv) (omega (arith, c .loop-test .left))
+
+pub put-lines-spec : {M : Type 1} → statement M
+put-lines-spec =
+    tie.close
+    (tie.spec
+    Inv-loop
+    μ-loop
+    loop-holds
+    add-end
+    sub-copy
+    part-copy-start
+    part-copy-end
+    sub-copy-2
+    part-copy-start-2
+    part-copy-end-2
+    copy-requires
+    add-to
+    sub-rest
+    loop-less
+    loop-again
+    same-length
+    returns)

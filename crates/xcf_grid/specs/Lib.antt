@@ -1,0 +1,4 @@
+pub mod Pixels
+pub mod Parts
+pub mod Grid
+pub mod Drawn

@@ -1,0 +1,4 @@
+pub mod RowsLoop
+pub mod ImageLength
+pub mod ImageParts
+pub mod Pointers

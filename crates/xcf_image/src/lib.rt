@@ -1,0 +1,118 @@
+// The image's structure: measured and stored.
+ghost use mathlib.Core.Path.{_≡_};
+ghost use mathlib.Core.Bool.{cond};
+ghost use mathlib.Core.List.{[], _∷_, _++_};
+ghost use Prim.Native.Nat.{_+_, _≤_};
+ghost use lib.ListN.{length, getD};
+ghost use Rattle.xcf_store.specs.Put.{Put};
+ghost use Rattle.xcf_parse.specs.Header.{tags};
+ghost use Rattle.xcf_store.specs.Word.{words};
+ghost use Rattle.xcf_image.specs.Image.{imageBytes};
+ghost use Rattle.xcf_image.specs.Parts.{kindPlaces, LowPlaces, versionFrom};
+use xcf_parse::header::FILE;
+use xcf_parse::header::MAGIC;
+use xcf_parse::header::V002;
+use xcf_store::put::put_bytes;
+use xcf_store::put::put_when;
+use xcf_store::put::put_word;
+use xcf_store::put::put_words;
+use xcf_table::canvas::Canvas;
+use xcf_table::row_at;
+
+// How many of the first n rows are of a kind.
+fn count_kind(table: &[u32], n: u32, kind: u32) -> usize
+    requires { ⌜ n ≤ 128 ⌝ }
+    ensures { λ r. ⌜ (r ≡ length (kindPlaces kind (now (table .entry)) n 0 [])) × (r ≤ 128) ⌝ }
+{
+    let mut k: u32 = 0;
+    let mut count: usize = 0;
+    while k < n {
+        if row_at(table, k).kind == kind {
+            count += 1;
+            k += 1;
+        } else {
+            k += 1;
+        }
+    }
+    count
+}
+
+// The length of the image's structure.
+pub fn image_size(canvas: Canvas, table: &[u32], n: u32) -> usize
+    requires { ⌜ n ≤ 128 ⌝ }
+    ensures { λ r. ⌜ (r ≡ length (imageBytes canvas (versionFrom (now (table .entry)) n 0) (kindPlaces 1 (now (table .entry)) n 0 []) (kindPlaces 3 (now (table .entry)) n 0 []))) × (r ≤ 1100) ⌝ }
+{
+    51 + 4 * count_kind(table, n, 1) + 4 * count_kind(table, n, 3)
+}
+
+// Whether one of the first n rows has a mode above 18, which makes the file's version 2.
+fn new_mode(table: &[u32], n: u32) -> bool
+    ensures { λ r. ⌜ cond r 2 0 ≡ versionFrom (now (table .entry)) n 0 ⌝ }
+{
+    let mut k: u32 = 0;
+    while k < n {
+        if 19 <= row_at(table, k).mode {
+            return true;
+        }
+        k += 1;
+    }
+    false
+}
+
+fn put_tag(output: &mut [u8], to: usize, new: bool) -> usize
+    requires { ⌜ to + 5 ≤ length (now output) ⌝ }
+    ensures { λ r. ⌜ Put (now (output .entry)) to (getD tags (cond new 2 0) []) r (now (output .exit)) ⌝ }
+{
+    if new {
+        return put_bytes(output, to, &V002);
+    }
+    put_bytes(output, to, &FILE)
+}
+
+// The places of those of the first n rows that are of a kind, and a 0.
+fn put_pointers(
+    output: &mut [u8],
+    to: usize,
+    table: &[u32],
+    n: u32,
+    kind: u32,
+    places: &[usize],
+) -> usize
+    requires { ⌜ (n ≤ 128) × (length (now places) ≡ 129) ⌝ }
+    requires { ⌜ LowPlaces (now places) n ⌝ }
+    requires { ⌜ to + length (words (kindPlaces kind (now table) n 0 (now places) ++ (0 ∷ []))) ≤ length (now output) ⌝ }
+    ensures { λ r. ⌜ Put (now (output .entry)) to (words (kindPlaces kind (now (table .entry)) n 0 (now (places .entry)) ++ (0 ∷ []))) r (now (output .exit)) ⌝ }
+{
+    let mut k: u32 = 0;
+    let mut next = to;
+    while k < n {
+        let row = row_at(table, k);
+        let place = places[k as usize] as u32;
+        next = put_when(output, next, row.kind == kind, &[place]);
+        k += 1;
+    }
+    put_word(output, next, 0)
+}
+
+// The image's structure at the output's start.
+pub fn put_image(
+    output: &mut [u8],
+    canvas: Canvas,
+    table: &[u32],
+    n: u32,
+    places: &[usize],
+) -> usize
+    requires { ⌜ (n ≤ 128) × (length (now places) ≡ 129) ⌝ }
+    requires { ⌜ LowPlaces (now places) n ⌝ }
+    requires { ⌜ length (imageBytes canvas (versionFrom (now table) n 0) (kindPlaces 1 (now table) n 0 (now places)) (kindPlaces 3 (now table) n 0 (now places))) ≤ length (now output) ⌝ }
+    ensures { λ r. ⌜ Put (now (output .entry)) 0 (imageBytes canvas (versionFrom (now (table .entry)) n 0) (kindPlaces 1 (now (table .entry)) n 0 (now (places .entry))) (kindPlaces 3 (now (table .entry)) n 0 (now (places .entry)))) r (now (output .exit)) ⌝ }
+{
+    let magic = put_bytes(output, 0, &MAGIC);
+    let tag = put_tag(output, magic, new_mode(table, n));
+    let sides = put_words(output, tag, &[canvas.width, canvas.height, canvas.base]);
+    let compression = put_words(output, sides, &[17, 1]);
+    output[compression] = 1;
+    let list = put_words(output, compression + 1, &[0, 0]);
+    let layers = put_pointers(output, list, table, n, 1, places);
+    put_pointers(output, layers, table, n, 3, places)
+}

@@ -1,0 +1,95 @@
+-- The numbers of the decoder's refusals: a walk over tile pointers that lie in the file is refused with 13 (`pointers-13`), so that
+-- the decoder answers 0, 11, 13, 14 or 15 (`decoder-listed`).
+-- Assumes nothing.
+use Prim.Native.Nat.{ℕ, zero, suc, _+_, _*_, _≤_}
+use mathlib.Core.Path.{_≡_, refl, sym, _∙_}
+use mathlib.Core.List.{List}
+use mathlib.Core.Bool.{Bool, true, false, cond, and-eq-true-iff}
+use native.Mathlib.Nat.{mul-le-mul-left}
+use native.Mathlib.Omega.{arith}
+use borrow.Author.Tests.{le-leb, leb-true}
+use lib.Dec.{leb, eqb}
+use lib.ListN.{length}
+use Rattle.xcf_walk.specs.Walk.{Outcome, got, refused, Walk, run, bytes, here, fileLength, must, _>>=_}
+use Rattle.xcf_store.specs.Word.{part, bigEndian}
+use Rattle.xcf_walk.specs.Fields.{number}
+use Rattle.xcf_walk.proofs.Walks.{got-not-refused}
+use Rattle.xcf_table.specs.declared.Row.{Row}
+use Rattle.xcf_table.specs.Table.{tableSize, rowAt, fileLimit}
+use Rattle.xcf_grid.specs.Grid.{tileCount}
+use Rattle.xcf_laws.proofs.Cases.{by-cases}
+use Rattle.xcf_parse.specs.Hierarchy.{pointerSize, tiles}
+use Rattle.xcf_read.specs.Answer.{listed}
+use Rattle.xcf_decode.specs.declared.DecodeAnswer.{DecodeAnswer}
+use Rattle.xcf_window.specs.Usable.{inRange, inFile, usableRow, fits, rowRefusal}
+use Rattle.xcf_decode.specs.Answer.{refusal, pointersRefusal, drawableRefusal, decoderNumbers, Decoding, rowDecoding, decoding}
+
+-- a number that lies in the file is read
+number-there : (size : ℕ) (f : List ℕ) (at : ℕ) {A : Type 0} (k : ℕ → Walk A) → at + size ≤ length f
+    → run (number size >>= k) f at ≡ run (k (bigEndian 0 (part f at size))) f (at + size)
+unfolding run number bytes
+number-there size f at k fits = rw (le-leb _ _ fits)
+
+module _ (size : ℕ) (f : List ℕ) where
+  tested-13 : (t : Bool) (at : ℕ) {A : Type 0} (w : Walk A) (q : ℕ) {n p : ℕ} → (refused n p ≡ run w f q → n ≡ 13)
+      → refused n p ≡ run (must t 13 at >>= λ _. w) f q → n ≡ 13
+  unfolding run must
+  tested-13 true at w q rest e = rest e
+  tested-13 false at w q rest e = cc
+
+  closed-13 : (t : Bool) (at q : ℕ) {n p : ℕ} → refused n p ≡ run (must t 13 at) f q → n ≡ 13
+  unfolding run must
+  closed-13 true at q e = absurd (got-not-refused (sym e))
+  closed-13 false at q e = cc
+
+  pub pointers-13 : (count before at : ℕ) {n p : ℕ} → at + size * (count + 1) ≤ length f → refused n p ≡ run (tiles size count before) f at → n ≡ 13
+  unfolding tiles run here fileLength
+  pointers-13 zero before at inside e = closed-13 _ at (at + size) (e ∙ number-there size f at _ (omega (arith, inside)))
+  pointers-13 (suc count) before at inside e =
+      let room : size * (0 + 1) ≤ size * (suc count + 1) = mul-le-mul-left size (omega arith) in
+      tested-13 _ at (tiles size count (bigEndian 0 (part f at size))) (at + size) (pointers-13 count _ (at + size) (omega (arith, inside)))
+      (e ∙ number-there size f at _ (omega (arith, inside, room)))
+
+-- an answer with one of the decoder's numbers
+abbrev Listed : DecodeAnswer → Type 0
+Listed a = listed decoderNumbers (a .number) ≡ true
+
+module _ (f : List ℕ) (n : ℕ) (r : Row) (compression : ℕ) where
+  pointers-inside : usableRow pointerSize (length f) r compression ≡ true → r .tiles + pointerSize * (r .count + 1) ≤ length f
+  unfolding usableRow inFile
+  pointers-inside e =
+      let row = and-eq-true-iff (inRange r) _ .0 e in
+      let file = and-eq-true-iff (inFile pointerSize (length f) r) _ .0 (row .1) in
+      leb-true _ _ (and-eq-true-iff (eqb (r .count) (tileCount (r .width) (r .height))) _ .0 (file .0) .1)
+
+  outcome-listed : (x : Outcome (Unit {0})) → ((m p : ℕ) → refused m p ≡ x → m ≡ 13) → Listed (pointersRefusal x)
+  unfolding listed
+  outcome-listed (got u q) h = refl
+  outcome-listed (refused m p) h = rw (h m p refl)
+
+  pointers-listed : usableRow pointerSize (length f) r compression ≡ true → Listed (pointersRefusal (run (tiles pointerSize (r .count) 0) f (r .tiles)))
+  pointers-listed e = outcome-listed _ (λ m p x. pointers-13 pointerSize f (r .count) 0 (r .tiles) (pointers-inside e) x)
+
+  drawable-listed : (fit : Bool) → Listed (drawableRefusal pointerSize f n r compression fit)
+  unfolding drawableRefusal rowRefusal listed
+  drawable-listed fit = go (eqb n tableSize) (leb (length f) fileLimit) (usableRow pointerSize (length f) r compression) refl fit
+    where
+      refusalAt : Bool → Bool → Bool → ℕ
+      refusalAt a b c = cond a (cond b (cond c 0 14) 15) 11
+
+      go : (a b c : Bool) → usableRow pointerSize (length f) r compression ≡ c → (fit : Bool)
+          → Listed (cond (eqb (refusalAt a b c) 0) (cond fit (pointersRefusal (run (tiles pointerSize (r .count) 0) f (r .tiles))) (refusal 11 0)) (refusal (refusalAt a b c) 0))
+      go true true true e true = pointers-listed e
+      go true true true e false = refl
+      go true true false e fit = refl
+      go true false c e fit = refl
+      go false b c e fit = refl
+
+pub decoder-listed : (file table : List ℕ) (k compression : ℕ) (pixels marks : List ℕ) → listed decoderNumbers (decoding file table k compression pixels marks .answer .number) ≡ true
+unfolding decoding rowDecoding listed
+decoder-listed file table k compression pixels marks =
+    let r = rowAt table k in
+    let answer = drawableRefusal pointerSize file (length table) r compression (fits r (length pixels) (length marks)) in
+    by-cases (λ (d : Decoding). Listed (d .answer)) (eqb (answer .number) 0) (rowDecoding pointerSize file r compression)
+    (record { answer = answer; pixels = pixels; marks = marks }) (λ _. refl)
+    (λ _. drawable-listed file (length table) r compression (fits r (length pixels) (length marks)))

@@ -1,0 +1,33 @@
+-- What damage leaves: the structure bytes (`structure-same`) and the windows of the tiles that are not chosen (`window-byte-same`),
+-- since two bytes are equal or not. So the damaged file is read as the file was (`read-same`).
+-- Assumes nothing.
+use Prim.Native.Nat.{ℕ}
+use mathlib.Core.Path.{_≡_, refl, sym}
+use mathlib.Core.List.{List}
+use mathlib.Core.Bool.{Bool, true, false}
+use borrow.Author.Tests.{eqb-true, eqb-false}
+use lib.Dec.{eqb}
+use lib.ListN.{getD}
+use Rattle.xcf_parse.specs.Hierarchy.{pointerSize}
+use Rattle.xcf_read.specs.Image.{structureByte}
+use Rattle.xcf_read.specs.Answer.{Reading, reading, rowOf}
+use Rattle.xcf_read_laws.proofs.ReadDepends.{read-depends}
+use Rattle.xcf_window.specs.Window.{InWindow}
+use Rattle.xcf_isolation.specs.Isolation.{IsTile, Damaged}
+
+equal-unless : (a b : ℕ) → ((a ≡ b → ⊥) → ⊥) → a ≡ b
+equal-unless a b h = go (eqb a b) refl
+  where
+    go : (t : Bool) → eqb a b ≡ t → a ≡ b
+    go true e = eqb-true a b e
+    go false e = absurd (h (eqb-false a b e))
+
+module _ {f g : List ℕ} {x : Reading} {Chosen : ℕ → ℕ → Type 0} (damage : Damaged f g x Chosen) where
+  pub structure-same : (i : ℕ) → structureByte f i → getD f i 0 ≡ getD g i 0
+  structure-same i s = equal-unless _ _ (λ differs. damage .structure i differs s)
+
+  pub window-byte-same : (k t : ℕ) → IsTile x k t → (Chosen k t → ⊥) → (i : ℕ) → InWindow pointerSize f (rowOf x k) t i → getD f i 0 ≡ getD g i 0
+  window-byte-same k t is free i inside = equal-unless _ _ (λ differs. damage .others i differs k t is free inside)
+
+  pub read-same : (lent : List ℕ) → reading g lent ≡ reading f lent
+  read-same lent = sym (read-depends f g lent (damage .size) structure-same)

@@ -1,0 +1,86 @@
+-- Demand 3: damage inside the windows of some tiles changes nothing outside them.
+use Prim.Native.Nat.{ℕ, _*_, _≤_, _<_}
+use mathlib.Core.Path.{_≡_}
+use mathlib.Core.List.{List}
+use mathlib.Core.Bool.{true}
+use lib.ListN.{length, getD, take, replicate}
+use Rattle.xcf_table.specs.declared.Row.{Row}
+use Rattle.xcf_grid.specs.Grid.{tileWidth, tileHeight}
+use Rattle.xcf_tile.specs.Tile.{tileOf}
+use Rattle.xcf_parse.specs.Hierarchy.{pointerSize}
+use Rattle.xcf_read.specs.Image.{structureByte}
+use Rattle.xcf_read.specs.Answer.{Reading, reading, rowOf}
+use Rattle.xcf_window.specs.Window.{window, InWindow, tile}
+use Rattle.xcf_grid.specs.Pixels.{shown}
+use Rattle.xcf_window.specs.Usable.{fits}
+use Rattle.xcf_decode.specs.Answer.{Decoding, decoding}
+
+-- the rules give the whole tile from these bytes with no 20 or 21, all of them consumed, and these are its pixels
+pub record Encoding (bytes : List ℕ) (w h depth compression : ℕ) (pixels : List ℕ) : Type 0 where
+  pub good : tileOf bytes w h depth compression .mark ≡ 0
+  pub whole : tileOf bytes w h depth compression .consumed ≡ length bytes
+  pub shows : tileOf bytes w h depth compression .pixels ≡ pixels
+
+-- the first n bytes of the window are a valid encoding of these pixels
+pub record BeginsWith (window : List ℕ) (w h depth compression : ℕ) (pixels : List ℕ) : Type 0 where
+  pub n : ℕ
+  pub inside : n ≤ length window
+  pub encoding : Encoding (take n window) w h depth compression pixels
+
+-- a tile's mark and pixels: it is good exactly when its window begins with a valid encoding, and then shows that encoding's
+-- pixels; otherwise it is marked and its pixels are zero
+pub record GoodWhenValid (window : List ℕ) (w h depth compression mark : ℕ) (pixels : List ℕ) : Type 0 where
+  pub good : mark ≡ 0 → BeginsWith window w h depth compression pixels
+  pub valid : (ps : List ℕ) → BeginsWith window w h depth compression ps → (mark ≡ 0) × (pixels ≡ ps)
+  pub marked : (mark ≡ 0 → ⊥) → pixels ≡ replicate (w * h * depth) 0
+
+-- tile t of row k is a tile of the file: each row has its own tiles, also where rows share pointers
+pub record IsTile (x : Reading) (k t : ℕ) : Type 0 where
+  pub row : k < x .answer .rows
+  pub tile : t < rowOf x k .count
+
+-- byte i lies in the window of a chosen tile
+pub record InChosen (f : List ℕ) (x : Reading) (Chosen : ℕ → ℕ → Type 0) (i : ℕ) : Type 0 where
+  pub k : ℕ
+  pub t : ℕ
+  pub is : IsTile x k t
+  pub chosen : Chosen k t
+  pub inside : InWindow pointerSize f (rowOf x k) t i
+
+-- g has f's length, and differs from it only inside windows of chosen tiles, at bytes in no structure of f and in no window of a
+-- tile not chosen; x is what the reader gave for f
+pub record Damaged (f g : List ℕ) (x : Reading) (Chosen : ℕ → ℕ → Type 0) : Type 0 where
+  pub size : length f ≡ length g
+  pub inside : (i : ℕ) → (getD f i 0 ≡ getD g i 0 → ⊥) → InChosen f x Chosen i
+  pub structure : (i : ℕ) → (getD f i 0 ≡ getD g i 0 → ⊥) → structureByte f i → ⊥
+  pub others : (i : ℕ) → (getD f i 0 ≡ getD g i 0 → ⊥) → (k t : ℕ) → IsTile x k t → (Chosen k t → ⊥) → InWindow pointerSize f (rowOf x k) t i → ⊥
+
+-- what the decodings d of f and e of g show of a row r: its tiles that are not chosen, and the chosen ones by the rules
+pub record RowIsolated (g : List ℕ) (r : Row) (compression : ℕ) (Chosen : ℕ → Type 0) (d e : Decoding) : Type 0 where
+  pub accepted : (d .answer .number ≡ 0) × (e .answer .number ≡ 0)
+  pub same : (t : ℕ) → t < r .count → (Chosen t → ⊥)
+      → (getD (e .marks) t 0 ≡ getD (d .marks) t 0)
+      × (shown (r .width) (r .height) (r .depth) t (e .pixels) ≡ shown (r .width) (r .height) (r .depth) t (d .pixels))
+  pub given : (t : ℕ) → t < r .count → Chosen t
+      → (getD (e .marks) t 0 ≡ tile pointerSize g r compression t .mark)
+      × (shown (r .width) (r .height) (r .depth) t (e .pixels) ≡ tile pointerSize g r compression t .pixels)
+  pub good : (t : ℕ) → t < r .count → Chosen t
+      → GoodWhenValid (window pointerSize g r t) (tileWidth (r .width) t) (tileHeight (r .width) (r .height) t) (r .depth) compression
+      (getD (e .marks) t 0) (shown (r .width) (r .height) (r .depth) t (e .pixels))
+
+-- g is read as f was, and its rows are isolated: the decoder is lent each file, what the reader gave for it, and buffers of the
+-- right length, whatever these held before
+pub record Isolated (f g lent : List ℕ) (Chosen : ℕ → ℕ → Type 0) : Type 0 where
+  pub read : reading g lent ≡ reading f lent
+  pub rows : (k : ℕ) → k < reading f lent .answer .rows → (pixels marks pixels' marks' : List ℕ)
+      → fits (rowOf (reading f lent) k) (length pixels) (length marks) ≡ true
+      → fits (rowOf (reading g lent) k) (length pixels') (length marks') ≡ true
+      → RowIsolated g (rowOf (reading f lent) k) (reading f lent .answer .compression) (Chosen k)
+      (decoding f (reading f lent .table) k (reading f lent .answer .compression) pixels marks)
+      (decoding g (reading g lent .table) k (reading g lent .answer .compression) pixels' marks')
+
+-- any file that is accepted, any choice of its tiles
+abbrev pub Isolation : Type 1
+Isolation =
+    (f g lent : List ℕ) (Chosen : ℕ → ℕ → Type 0) → reading f lent .answer .number ≡ 0
+    → Damaged f g (reading f lent) Chosen → Isolated f g lent Chosen

@@ -1,0 +1,28 @@
+-- Choices: what holds of both branches holds of the choice; one of two numbers is below the other or not; a choice by the opposite
+-- test, and between two of the same.
+-- Assumes nothing.
+use mathlib.Core.Path.{_≡_, refl}
+use mathlib.Core.Bool.{Bool, true, false, cond, not}
+use Prim.Native.Nat.{ℕ, _≤_, _<_}
+use mathlib.Core.Logic.{_⊎_, inl, inr}
+use borrow.Author.Tests.{leb-true, leb-false}
+use lib.Dec.{leb}
+
+pub by-cases : {A : Type 0} (P : A → Type 0) (b : Bool) (x y : A) → (b ≡ true → P x) → (b ≡ false → P y) → P (cond b x y)
+by-cases P true x y f g = f refl
+by-cases P false x y f g = g refl
+
+pub below-or : (a b : ℕ) → (a < b) ⊎ (b ≤ a)
+below-or a b = go (leb b a) refl
+  where
+    go : (t : Bool) → leb b a ≡ t → (a < b) ⊎ (b ≤ a)
+    go true e = inr (leb-true b a e)
+    go false e = inl (leb-false b a e)
+
+pub cond-not : {A : Type 0} (b : Bool) (x y : A) → cond (not b) x y ≡ cond b y x
+cond-not true x y = refl
+cond-not false x y = refl
+
+pub cond-same : {A : Type 0} (b : Bool) (x : A) → cond b x x ≡ x
+cond-same true x = refl
+cond-same false x = refl

@@ -1,0 +1,1 @@
+// General laws, of choices, steps and copied bytes: proofs only.

@@ -1,0 +1,94 @@
+-- `version_at` meets its contract: each return rewrites the search of the tags with the tests that led there;
+-- `of-last` is what is left of it before the last test.
+use Prim.Native.Nat.{suc}
+use mathlib.Core.Path.{_≡_}
+use mathlib.Core.Bool.{cond}
+use borrow.Author.Needs.{needs}
+use Rattle.xcf_store.specs.Word.{part}
+use Rattle.xcf_parse.specs.Header.{tags, versionIn}
+use Rattle.xcf_parse.proofs.header.version_at.Statement.{statement}
+use Rattle.xcf_parse.proofs.header.version_at.Tie as tie
+
+slice-aggregate-stands : tie.Need-slice-aggregate-stands
+slice-aggregate-stands c = search needs
+
+stands-requires : tie.Need-stands-requires
+stands-requires c κs = search needs
+
+returns : tie.Need-returns
+unfolding versionIn
+returns c = rw (← c .before .stands .ensures, c .if1 .taken)
+
+slice-aggregate-stands-2 : tie.Need-slice-aggregate-stands-2
+slice-aggregate-stands-2 c = search needs
+
+stands-requires-2 : tie.Need-stands-requires-2
+stands-requires-2 c κs = search needs
+
+returns-2 : tie.Need-returns-2
+unfolding versionIn
+returns-2 c =
+    let first = c .before .before .before in
+    rw (← first .before .stands .ensures, first .if1 .left, ← c .before .stands2 .ensures, c .if2 .taken)
+
+slice-aggregate-stands-3 : tie.Need-slice-aggregate-stands-3
+slice-aggregate-stands-3 c = search needs
+
+stands-requires-3 : tie.Need-stands-requires-3
+stands-requires-3 c κs = search needs
+
+returns-3 : tie.Need-returns-3
+unfolding versionIn
+returns-3 c =
+    let second = c .before .before .before in
+    let first = second .before .before .before in
+    rw (← first .before .stands .ensures, first .if1 .left, ← second .before .stands2 .ensures, second .if2 .left, ← c .before .stands3 .ensures, c .if3 .taken)
+
+slice-aggregate-stands-4 : tie.Need-slice-aggregate-stands-4
+slice-aggregate-stands-4 c = search needs
+
+stands-requires-4 : tie.Need-stands-requires-4
+stands-requires-4 c κs = search needs
+
+-- the version, by the last of the tests
+of-last : (c : tie.After-stands4)
+    → let a = c .before .before .before .before .before .before .before .before .before .before .before .before .args in
+    versionIn tags (part (a .file .now) (a .at) 5) ≡ suc (suc (suc (cond (c .stands4 .result) 0 1)))
+unfolding versionIn
+of-last c =
+    let third = c .before .before in
+    let second = third .before .before .before in
+    let first = second .before .before .before in
+    rw (
+      ← first .before .stands .ensures,
+      first .if1 .left,
+      ← second .before .stands2 .ensures,
+      second .if2 .left,
+      ← third .before .stands3 .ensures,
+      third .if3 .left,
+      ← c .stands4 .ensures,
+    )
+
+returns-4 : tie.Need-returns-4
+returns-4 c = rw (of-last (c .before), c .if4 .taken)
+
+returns-5 : tie.Need-returns-5
+returns-5 c = rw (of-last (c .before), c .if4 .left)
+
+pub version-at-spec : {M : Type 1} → statement M
+version-at-spec =
+    tie.close
+    (tie.spec
+    slice-aggregate-stands
+    stands-requires
+    returns
+    slice-aggregate-stands-2
+    stands-requires-2
+    returns-2
+    slice-aggregate-stands-3
+    stands-requires-3
+    returns-3
+    slice-aggregate-stands-4
+    stands-requires-4
+    returns-4
+    returns-5)

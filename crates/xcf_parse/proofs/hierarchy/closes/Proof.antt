@@ -1,0 +1,13 @@
+-- `closes` meets its contract, by whether all pointers are right; the test of the word is the definition's.
+use borrow.Author.Tests.{eq-eqb, ne-eqb}
+use Rattle.xcf_parse.proofs.hierarchy.closes.Statement.{statement}
+use Rattle.xcf_parse.proofs.hierarchy.closes.Tie as tie
+
+returns : tie.Need-returns
+returns c = rw (eq-eqb _ _ (c .if1 .taken))
+
+returns-2 : tie.Need-returns-2
+returns-2 c = rw (ne-eqb _ _ (c .if1 .left))
+
+pub closes-spec : {M : Type 1} → statement M
+closes-spec = tie.close (tie.spec returns returns-2)

@@ -1,0 +1,63 @@
+-- A drawable's hierarchy, its first level and the pointers of its tiles.
+use Prim.Native.Nat.{ℕ, zero, suc}
+use mathlib.Core.Bool.{cond, not, _&&_}
+use lib.Dec.{ltb, eqb}
+use Rattle.xcf_walk.specs.Walk.{Walk, done, here, fileLength, jump, must, Turn, more, last, loop, _>>=_, _>>_}
+use Rattle.xcf_walk.specs.Fields.{number, word}
+use Rattle.xcf_grid.specs.Grid.{tileCount}
+
+-- the number of a pointer's bytes in versions 0 to 3
+abbrev pub pointerSize : ℕ
+pointerSize = 4
+
+-- a word that has to be v
+unfoldable pub agrees : ℕ → Walk (Unit {0})
+agrees v = do
+  at ← here
+  n ← word
+  must (eqb n v) 10 at
+
+-- a pointer of so many bytes that is not 0
+unfoldable pub pointer : ℕ → Walk ℕ
+pointer size = do
+  at ← here
+  p ← number size
+  must (not (eqb p 0)) 9 at
+  done p
+
+-- further pointers up to a 0
+unfoldable pub restTurn : ℕ → Unit {0} → Walk (Turn (Unit {0}) (Unit {0}))
+restTurn size u = do
+  p ← number size
+  done (cond (eqb p 0) (last tt) (more tt))
+
+unfoldable pub rest : ℕ → Walk (Unit {0})
+rest size = loop (restTurn size) tt
+
+-- the pointers of n tiles, each above the one before and below the file's length, then 0
+unfoldable pub tiles : ℕ → ℕ → ℕ → Walk (Unit {0})
+tiles size zero before = do
+  at ← here
+  p ← number size
+  must (eqb p 0) 13 at
+tiles size (suc n) before = do
+  at ← here
+  end ← fileLength
+  p ← number size
+  must (ltb before p && ltb p end) 13 at
+  tiles size n p
+
+-- the place of the first tile pointer
+unfoldable pub hierarchy : ℕ → ℕ → ℕ → ℕ → Walk ℕ
+hierarchy size width height depth = do
+  agrees width
+  agrees height
+  agrees depth
+  level ← pointer size
+  rest size
+  jump level
+  agrees width
+  agrees height
+  place ← here
+  tiles size (tileCount width height) 0
+  done place

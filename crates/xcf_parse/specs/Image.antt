@@ -1,0 +1,32 @@
+-- What stands in a file before its pointers.
+use Prim.Native.Nat.{ℕ}
+use mathlib.Core.Bool.{Bool, cond, not, _&&_}
+use lib.Dec.{leb, eqb}
+use Rattle.xcf_walk.specs.Walk.{Walk, done, here, must, _>>=_, _>>_}
+use Rattle.xcf_walk.specs.Fields.{word}
+use Rattle.xcf_property.specs.Property.{imageList}
+use Rattle.xcf_walk.specs.Property.{properties}
+use Rattle.xcf_parse.specs.declared.image.Head.{Head}
+use Rattle.xcf_parse.specs.Header.{header}
+use Rattle.xcf_parse.specs.Drawable.{side}
+
+-- 0, 1, or from version 1 on 2
+unfoldable pub baseOk : ℕ → ℕ → Bool
+baseOk version base = leb base 2 && not (eqb version 0 && eqb base 2)
+
+unfoldable pub baseType : ℕ → Walk ℕ
+baseType version = do
+  at ← here
+  base ← word
+  must (baseOk version base) 5 at
+  done base
+
+-- what stands before the pointers
+unfoldable pub head : Walk Head
+head = do
+  version ← header
+  width ← side
+  height ← side
+  base ← baseType version
+  p ← properties imageList (cond (eqb base 2) 1 0)
+  done (record { version = version; width = width; height = height; base = base; compression = p .compression })

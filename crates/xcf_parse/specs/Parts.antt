@@ -1,0 +1,33 @@
+-- The contracts of structures, by name.
+use Prim.Native.Nat.{ℕ, _-_, _≤_, _<_}
+use mathlib.Core.Path.{_≡_}
+use mathlib.Core.List.{List}
+use mathlib.Core.Bool.{false}
+use lib.ListN.{length}
+use Rattle.xcf_walk.specs.declared.cursor.Cursor.{Cursor}
+use Rattle.xcf_store.specs.Rising.{rises}
+use Rattle.xcf_walk.specs.Cursor.{Leads}
+use Rattle.xcf_parse.specs.declared.drawable.Fields.{Fields}
+use Rattle.xcf_parse.specs.declared.drawable.Layer.{Layer}
+use Rattle.xcf_parse.specs.Hierarchy.{pointerSize, tiles}
+
+abbrev pub fileStart : Cursor
+fileStart = record { at = 0; number = 0 }
+
+-- the places of a drawable's fields are at most n, beside a refusal too
+pub record FieldsLow (x : Fields) (n : ℕ) : Type 0 where
+  pub name : x .name .place ≤ n
+  pub size : x .name .length ≤ n
+  pub list : x .list ≤ n
+
+pub record LayerLow (x : Layer) (n : ℕ) : Type 0 where
+  pub width : x .width ≤ 16384
+  pub height : x .height ≤ 16384
+  pub fields : FieldsLow (x .fields) n
+
+-- of n tiles count pointers are right, the last of them before next: where what is left leads, the whole leads; and where the
+-- cursor is live and pointers are left, the next one is not right
+pub record TilesLeft (f : List ℕ) (c : Cursor) (n : ℕ) (next : Cursor) (last count : ℕ) : Type 0 where
+  pub few : count ≤ n
+  pub whole : {d : Cursor} → Leads next (tiles pointerSize (n - count) last) f d tt → Leads c (tiles pointerSize n 0) f d tt
+  pub stops : next .number ≡ 0 → count < n → rises f (next .at) last ≡ false

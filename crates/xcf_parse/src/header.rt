@@ -1,0 +1,78 @@
+// The first bytes of a file, compared with fixed byte strings.
+ghost use mathlib.Core.Path.{_≡_};
+ghost use lib.ListN.{length};
+ghost use Rattle.xcf_store.specs.Word.{part};
+ghost use Rattle.xcf_walk.specs.Cursor.{Leads};
+ghost use Rattle.xcf_parse.specs.Header.{same, tags, versionIn, header};
+use xcf_walk::cursor::Cursor;
+
+pub const MAGIC: [u8; 9] = *b"gimp xcf ";
+
+pub const FILE: [u8; 5] = *b"file\0";
+
+pub const V001: [u8; 5] = *b"v001\0";
+
+pub const V002: [u8; 5] = *b"v002\0";
+
+pub const V003: [u8; 5] = *b"v003\0";
+
+pub struct VersionRead {
+    pub version: u32,
+    pub cursor: Cursor,
+}
+
+// Whether the bytes of want stand in the file at a place.
+fn stands(file: &[u8], at: usize, want: &[u8]) -> bool
+    ensures { λ r. ⌜ r ≡ same (part (now (file .entry)) at (length (now (want .entry)))) (now (want .entry)) ⌝ }
+{
+    let n = want.len();
+    if file.len() < at {
+        return n == 0;
+    }
+    if file.len() - at < n {
+        return false;
+    }
+    let mut i = 0;
+    while i < n {
+        if file[at + i] != want[i] {
+            return false;
+        }
+        i += 1;
+    }
+    true
+}
+
+// The version whose tag stands at a place, or 4.
+fn version_at(file: &[u8], at: usize) -> u32
+    ensures { λ r. ⌜ r ≡ versionIn tags (part (now (file .entry)) at 5) ⌝ }
+{
+    if stands(file, at, &FILE) {
+        return 0;
+    }
+    if stands(file, at, &V001) {
+        return 1;
+    }
+    if stands(file, at, &V002) {
+        return 2;
+    }
+    if stands(file, at, &V003) {
+        return 3;
+    }
+    4
+}
+
+pub(crate) fn header(cursor: Cursor, file: &[u8]) -> VersionRead
+    ensures { λ r. ⌜ Leads cursor header (now (file .entry)) (r .cursor) (r .version) ⌝ }
+{
+    let start = cursor.at;
+    let first = cursor.skip(file, 9);
+    let second = first.check(stands(file, start, &MAGIC), 2, start);
+    let at = second.at;
+    let third = second.skip(file, 5);
+    let version = version_at(file, at);
+    let next = third.check(version < 4, 3, at);
+    VersionRead {
+        version,
+        cursor: next,
+    }
+}

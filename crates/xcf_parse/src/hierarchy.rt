@@ -1,0 +1,120 @@
+// A drawable's hierarchy, its first level and the pointers of its tiles.
+ghost use mathlib.Core.Path.{_≡_};
+ghost use Prim.Native.Nat.{_≤_};
+ghost use mathlib.Core.Bool.{_&&_};
+ghost use lib.ListN.{length};
+ghost use lib.Dec.{eqb};
+ghost use Rattle.xcf_walk.specs.Cursor.{Leads};
+ghost use Rattle.xcf_parse.specs.Parts.{TilesLeft};
+ghost use Rattle.xcf_parse.specs.Hierarchy.{pointerSize, agrees, pointer, rest, tiles, hierarchy};
+use xcf_grid::tile_count;
+use xcf_store::rising::rising_words;
+use xcf_walk::cursor::Cursor;
+use xcf_walk::cursor::WordRead;
+use xcf_walk::cursor::start;
+
+// The place of a drawable's first tile pointer.
+pub struct PlaceRead {
+    pub place: usize,
+    pub cursor: Cursor,
+}
+
+// How many tile pointers are right, the last of them, and the cursor behind it.
+struct TilesRead {
+    count: u32,
+    last: u32,
+    cursor: Cursor,
+}
+
+// A word that has to be v.
+fn agrees(cursor: Cursor, file: &[u8], v: u32) -> Cursor
+    ensures { λ r. ⌜ Leads cursor (agrees v) (now (file .entry)) r tt ⌝ }
+{
+    let n = cursor.word(file);
+    n.cursor.check(n.value == v, 10, cursor.at)
+}
+
+// A pointer that is not 0.
+pub(crate) fn pointer(cursor: Cursor, file: &[u8]) -> WordRead
+    ensures { λ r. ⌜ Leads cursor (pointer pointerSize) (now (file .entry)) (r .cursor) (r .value) ⌝ }
+{
+    let p = cursor.word(file);
+    let next = p.cursor.check(p.value != 0, 9, cursor.at);
+    WordRead {
+        value: p.value,
+        cursor: next,
+    }
+}
+
+// Further pointers up to a 0.
+fn rest(cursor: Cursor, file: &[u8]) -> Cursor
+    ensures { λ r. ⌜ Leads cursor (rest pointerSize) (now (file .entry)) r tt ⌝ }
+{
+    let mut next = cursor;
+    let mut again = true;
+    while again {
+        let p = next.word(file);
+        next = p.cursor;
+        again = p.value != 0;
+    }
+    next
+}
+
+// The tile pointers that are right, from a refused cursor none.
+fn right_tiles(cursor: Cursor, file: &[u8], n: u32) -> TilesRead
+    ensures { λ r. ⌜ TilesLeft (now (file .entry)) cursor n (r .cursor) (r .last) (r .count) ⌝ }
+{
+    if cursor.number != 0 {
+        return TilesRead {
+            count: 0,
+            last: 0,
+            cursor,
+        };
+    }
+    let at = cursor.at;
+    let read = rising_words(file, at, n);
+    let next = start(at + 4 * (read.count as usize));
+    TilesRead {
+        count: read.count,
+        last: read.last,
+        cursor: next,
+    }
+}
+
+// Whether the word p behind so many right pointers closes the pointers of n tiles.
+fn closes(count: u32, n: u32, p: u32) -> bool
+    ensures { λ r. ⌜ r ≡ (eqb count n && eqb p 0) ⌝ }
+{
+    if count == n { p == 0 } else { false }
+}
+
+// The pointers of n tiles and the closing word.
+pub fn tiles(cursor: Cursor, file: &[u8], n: u32) -> Cursor
+    ensures { λ r. ⌜ Leads cursor (tiles pointerSize n 0) (now (file .entry)) r tt ⌝ }
+{
+    let right = right_tiles(cursor, file, n);
+    let next = right.cursor;
+    let p = next.word(file);
+    p.cursor.check(closes(right.count, n, p.value), 13, next.at)
+}
+
+// A hierarchy and its first level, for a drawable of these sides and this depth.
+pub fn hierarchy(cursor: Cursor, file: &[u8], width: u32, height: u32, depth: u32) -> PlaceRead
+    requires { ⌜ (width ≤ 16384) × (height ≤ 16384) ⌝ }
+    ensures { λ r. ⌜ Leads cursor (hierarchy pointerSize width height depth) (now (file .entry)) (r .cursor) (r .place) ⌝ }
+    ensures { λ r. ⌜ r .place ≤ length (now (file .entry)) ⌝ }
+{
+    let first = agrees(cursor, file, width);
+    let second = agrees(first, file, height);
+    let third = agrees(second, file, depth);
+    let level = pointer(third, file);
+    let fourth = rest(level.cursor, file);
+    let fifth = fourth.jump(level.value as usize);
+    let sixth = agrees(fifth, file, width);
+    let seventh = agrees(sixth, file, height);
+    let count = tile_count(width, height) as u32;
+    PlaceRead {
+        place: seventh.place(),
+        cursor: tiles(seventh, file, count),
+    }
+}

@@ -1,0 +1,80 @@
+// What stands in a file before its pointers.
+ghost use mathlib.Core.Path.{_≡_};
+ghost use Prim.Native.Nat.{_≤_};
+ghost use mathlib.Core.Bool.{cond};
+ghost use lib.Dec.{eqb};
+ghost use Rattle.xcf_walk.specs.Cursor.{Leads};
+ghost use Rattle.xcf_parse.specs.Image.{baseOk, baseType, head};
+ghost use Rattle.xcf_parse.specs.Parts.{fileStart};
+use crate::drawable::side;
+use crate::header::header;
+use xcf_walk::cursor::Cursor;
+use xcf_walk::cursor::WordRead;
+use xcf_walk::cursor::start;
+
+// What stands before the pointers.
+pub struct Head {
+    pub version: u32,
+    pub width: u32,
+    pub height: u32,
+    pub base: u32,
+    pub compression: u32,
+}
+
+pub struct HeadRead {
+    pub head: Head,
+    pub cursor: Cursor,
+}
+
+fn base_ok(version: u32, base: u32) -> bool
+    ensures { λ r. ⌜ r ≡ baseOk version base ⌝ }
+{
+    if 2 < base {
+        return false;
+    }
+    if version == 0 {
+        return base != 2;
+    }
+    true
+}
+
+fn base_type(cursor: Cursor, file: &[u8], version: u32) -> WordRead
+    ensures { λ r. ⌜ Leads cursor (baseType version) (now (file .entry)) (r .cursor) (r .value) ⌝ }
+{
+    let base = cursor.word(file);
+    let next = base.cursor
+        .check(base_ok(version, base.value), 5, cursor.at);
+    WordRead {
+        value: base.value,
+        cursor: next,
+    }
+}
+
+// 1 for an indexed image.
+fn unmapped(base: u32) -> u32
+    ensures { λ r. ⌜ r ≡ cond (eqb base 2) 1 0 ⌝ }
+{
+    if base == 2 { 1 } else { 0 }
+}
+
+pub fn read_head(file: &[u8]) -> HeadRead
+    ensures { λ r. ⌜ Leads fileStart head (now (file .entry)) (r .cursor) (r .head) ⌝ }
+    ensures { λ r. ⌜ (r .head .width ≤ 16384) × (r .head .height ≤ 16384) ⌝ }
+{
+    let version = header(start(0), file);
+    let width = side(version.cursor, file);
+    let height = side(width.cursor, file);
+    let base = base_type(height.cursor, file, version.version);
+    let p = base.cursor.properties(file, 0, unmapped(base.value));
+    let next = p.cursor;
+    HeadRead {
+        head: Head {
+            version: version.version,
+            width: width.value,
+            height: height.value,
+            base: base.value,
+            compression: p.properties.compression,
+        },
+        cursor: next,
+    }
+}

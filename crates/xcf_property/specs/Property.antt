@@ -1,0 +1,108 @@
+-- What a property's length and content may be, by its type, and what a list of properties says.
+use Prim.Native.Nat.{ℕ}
+use mathlib.Core.List.{List, [], _∷_}
+use mathlib.Core.Bool.{Bool, true, cond, _&&_}
+use lib.ListN.{length, getD}
+use lib.Dec.{leb, ltb, eqb}
+use Rattle.xcf_property.specs.declared.Content.{Content}
+use Rattle.xcf_property.specs.declared.Properties.{Properties}
+use Rattle.xcf_store.specs.Word.{wordOf}
+
+-- whose list it is: the image's, or a drawable's by its row's kind
+abbrev pub imageList : ℕ
+imageList = 0
+
+abbrev pub layerList : ℕ
+layerList = 1
+
+-- in the list below: a type that is skipped by its length
+abbrev pub any : ℕ
+any = 4294967295
+
+-- the payload lengths of types 0 to 29
+abbrev pub lengths : List ℕ
+lengths =
+    0 ∷ any ∷ 0 ∷ 0 ∷ 0 ∷ 4 ∷ 4 ∷ 4 ∷ 4 ∷ 4 ∷ 4 ∷ 4 ∷ 4 ∷ 4 ∷ 4 ∷ 8 ∷ 3 ∷ 1 ∷ any ∷ 8
+    ∷ 4 ∷ any ∷ 4 ∷ any ∷ any ∷ any ∷ any ∷ any ∷ any ∷ 0 ∷ []
+
+unfoldable pub lengthOk : ℕ → ℕ → Bool
+lengthOk kind n =
+    cond (ltb kind (length lengths))
+    (cond (eqb (getD lengths kind 0) any) true (eqb n (getD lengths kind 0)))
+    true
+
+-- a payload of n bytes: its only byte or its first word, and its second word
+unfoldable pub contentOf : List ℕ → Content
+contentOf b = record { first = cond (eqb (length b) 1) (getD b 0 0) (wordOf b 0); second = wordOf b 4 }
+
+unfoldable pub isColourMap : ℕ → ℕ → Bool
+isColourMap list kind = eqb list imageList && eqb kind 1
+
+-- type 5 in a layer's list
+unfoldable pub isFloating : ℕ → ℕ → Bool
+isFloating list kind = eqb list layerList && eqb kind 5
+
+-- the list ends, and an indexed image's colour map has not come
+unfoldable pub lacksMap : ℕ → Properties → Bool
+lacksMap kind p = eqb kind 0 && eqb (p .unmapped) 1
+
+-- compression in the image's list is 0 or 1; in a drawable's, opacity is at most 255, visible and a layer's apply mask are 0 or 1
+unfoldable pub allowed : ℕ → ℕ → ℕ → Bool
+allowed list kind v =
+    cond (eqb list imageList)
+    (cond (eqb kind 17) (leb v 1) true)
+    (cond (eqb kind 6) (leb v 255) (cond (eqb kind 8) (leb v 1) (cond (eqb list layerList && eqb kind 11) (leb v 1) true)))
+
+-- what holds where the list says nothing; unmapped is 1 for an indexed image
+abbrev pub absent : ℕ → ℕ → Properties
+absent list unmapped = record {
+  compression = 0;
+  unmapped = unmapped;
+  opacity = 255;
+  mode = 0;
+  visible = cond (eqb list layerList) 1 0;
+  apply = 1;
+  dx = 0;
+  dy = 0;
+  active = 0;
+  selection = 0;
+  group = 0;
+}
+
+-- the type that says a drawable is active
+unfoldable pub activeType : ℕ → ℕ
+activeType list = cond (eqb list layerList) 2 3
+
+-- the list after one more property: the last of a type stands
+unfoldable pub put : ℕ → ℕ → Content → Properties → Properties
+put list kind c p = record {
+  compression = cond (eqb kind 17) (c .first) (p .compression);
+  unmapped = cond (eqb kind 1) 0 (p .unmapped);
+  opacity = cond (eqb kind 6) (c .first) (p .opacity);
+  mode = cond (eqb kind 7) (c .first) (p .mode);
+  visible = cond (eqb kind 8) (c .first) (p .visible);
+  apply = cond (eqb kind 11) (c .first) (p .apply);
+  dx = cond (eqb kind 15) (c .first) (p .dx);
+  dy = cond (eqb kind 15) (c .second) (p .dy);
+  active = cond (eqb kind (activeType list)) 1 (p .active);
+  selection = cond (eqb kind 4) 1 (p .selection);
+  group = cond (eqb kind 29) 1 (p .group);
+}
+
+abbrev pub noContent : Content
+noContent = record { first = 0; second = 0 }
+
+abbrev pub noProperties : Properties
+noProperties = record {
+  compression = 0;
+  unmapped = 0;
+  opacity = 0;
+  mode = 0;
+  visible = 0;
+  apply = 0;
+  dx = 0;
+  dy = 0;
+  active = 0;
+  selection = 0;
+  group = 0;
+}

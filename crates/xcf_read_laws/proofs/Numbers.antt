@@ -1,0 +1,181 @@
+-- The reader's refusals have the numbers of document 01: structure by structure, from the numbers of its fields.
+-- Assumes nothing.
+use Prim.Native.Nat.{ℕ, zero, suc}
+use mathlib.Core.Path.{_≡_, refl}
+use mathlib.Core.List.{List, [], _∷_}
+use mathlib.Core.Bool.{true}
+use lib.Dec.{eqb}
+use native.Mathlib.Omega.{arith}
+use Rattle.xcf_walk.specs.Walk.{Walk, refused, run}
+use Rattle.xcf_walk.specs.Fields.{number, word, string}
+use Rattle.xcf_property.specs.declared.Properties.{Properties}
+use Rattle.xcf_walk.specs.Property.{payload, colourMap, content, property, propertyTurn, properties}
+use Rattle.xcf_property.specs.Property.{isColourMap}
+use Rattle.xcf_walk.proofs.Advances.{advances-first, advances-number, advances-property-turn}
+use Rattle.xcf_walk.proofs.Straight.{straight-done, straight-bind, straight-number}
+use Rattle.xcf_walk_laws.proofs.Refusals.{Refuses, refuses-done, refuses-here, refuses-length, refuses-jump, refuses-must, refuses-bytes, refuses-bind, refuses-cond, refuses-loop}
+use Rattle.xcf_table.specs.Table.{Rows}
+use Rattle.xcf_table.specs.declared.canvas.Canvas.{Canvas}
+use Rattle.xcf_parse.specs.declared.drawable.Layer.{Layer}
+use Rattle.xcf_parse.specs.declared.drawable.Owner.{Owner}
+use Rattle.xcf_parse.specs.Header.{header}
+use Rattle.xcf_parse.specs.Hierarchy.{pointerSize, agrees, pointer, restTurn, rest, tiles, hierarchy}
+use Rattle.xcf_parse.specs.Drawable.{side, sideLike, layerType, fields, layer, channel}
+use Rattle.xcf_read.specs.Drawable.{channelRows, maskRows, layerRows, canvasChannelRows}
+use Rattle.xcf_parse.specs.Image.{baseType, head}
+use Rattle.xcf_read.specs.Image.{pointers, drawables, image}
+use Rattle.xcf_read.specs.Answer.{refusals, listed}
+
+abbrev pub Numbered : {A : Type 0} → Walk A → Type 0
+Numbered w = Refuses (λ n. listed refusals n ≡ true) w
+
+numbered-number : (size : ℕ) → Numbered (number size)
+unfolding number listed
+numbered-number size = refuses-bind _ (refuses-bytes size refl) λ b. refuses-done
+
+numbered-word : Numbered word
+unfolding word
+numbered-word = numbered-number 4
+
+numbered-string : Numbered string
+unfolding string listed
+numbered-string =
+    refuses-bind _ refuses-here λ at. refuses-bind _ numbered-word λ n. refuses-bind _ refuses-here λ place.
+    refuses-bind _ (refuses-bytes n refl) λ b. refuses-bind _ (refuses-must _ 12 at refl) λ _. refuses-done
+
+numbered-payload : (kind at n : ℕ) → Numbered (payload kind at n)
+unfolding payload listed
+numbered-payload kind at n = refuses-bind _ (refuses-must _ 6 at refl) λ _. refuses-bind _ (refuses-bytes n refl) λ b. refuses-done
+
+numbered-colour-map : (at n : ℕ) → Numbered (colourMap at n)
+unfolding colourMap listed
+numbered-colour-map at n =
+    refuses-bind _ (refuses-must _ 6 at refl) λ _. refuses-bind _ refuses-here λ here. refuses-bind _ numbered-word λ count.
+    refuses-bind _ (refuses-must _ 7 here refl) λ _. refuses-bind _ (refuses-must _ 6 at refl) λ _. refuses-bind _ (refuses-bytes _ refl) λ b. refuses-done
+
+numbered-property : (owner : ℕ) → Numbered (property owner)
+unfolding property content
+numbered-property owner =
+    refuses-bind _ refuses-here λ start. refuses-bind _ numbered-word λ kind. refuses-bind _ refuses-here λ at. refuses-bind _ numbered-word λ n.
+    refuses-bind _ refuses-here λ place. refuses-bind _ (refuses-cond (isColourMap owner kind) (numbered-colour-map at n) (numbered-payload kind at n)) λ c. refuses-done
+
+numbered-property-turn : (owner : ℕ) (p : Properties) → Numbered (propertyTurn owner p)
+unfolding propertyTurn listed
+numbered-property-turn owner p =
+    refuses-bind _ (numbered-property owner) λ x. refuses-bind _ (refuses-must _ 16 _ refl) λ _. refuses-bind _ (refuses-must _ 7 _ refl) λ _.
+    refuses-bind _ (refuses-must _ 7 _ refl) λ _. refuses-done
+
+numbered-properties : (owner unmapped : ℕ) → Numbered (properties owner unmapped)
+unfolding properties
+numbered-properties owner unmapped = refuses-loop (propertyTurn owner) (numbered-property-turn owner) (advances-property-turn owner) _
+
+numbered-header : Numbered header
+unfolding header listed
+numbered-header =
+    refuses-bind _ refuses-here λ start. refuses-bind _ (refuses-bytes 9 refl) λ m. refuses-bind _ (refuses-must _ 2 start refl) λ _.
+    refuses-bind _ refuses-here λ at. refuses-bind _ (refuses-bytes 5 refl) λ t. refuses-bind _ (refuses-must _ 3 at refl) λ _. refuses-done
+
+numbered-agrees : (v : ℕ) → Numbered (agrees v)
+unfolding agrees listed
+numbered-agrees v = refuses-bind _ refuses-here λ at. refuses-bind _ numbered-word λ n. refuses-must _ 10 at refl
+
+numbered-pointer : (size : ℕ) → Numbered (pointer size)
+unfolding pointer listed
+numbered-pointer size =
+    refuses-bind _ refuses-here λ at. refuses-bind _ (numbered-number size) λ p. refuses-bind _ (refuses-must _ 9 at refl) λ _. refuses-done
+
+numbered-rest : Numbered (rest pointerSize)
+unfolding rest restTurn
+numbered-rest =
+    refuses-loop (restTurn pointerSize)
+    (λ u. refuses-bind _ (numbered-number pointerSize) λ p. refuses-done)
+    (λ u. advances-first (number pointerSize) _ (straight-bind _ (straight-number pointerSize) λ p. straight-done) (advances-number pointerSize (omega arith))) tt
+
+pub numbered-tiles : (size n before : ℕ) → Numbered (tiles size n before)
+unfolding tiles listed
+numbered-tiles size zero before = refuses-bind _ refuses-here λ at. refuses-bind _ (numbered-number size) λ p. refuses-must _ 13 at refl
+numbered-tiles size (suc n) before =
+    refuses-bind _ refuses-here λ at. refuses-bind _ refuses-length λ end. refuses-bind _ (numbered-number size) λ p.
+    refuses-bind _ (refuses-must _ 13 at refl) λ _. numbered-tiles size n p
+
+numbered-hierarchy : (width height depth : ℕ) → Numbered (hierarchy pointerSize width height depth)
+unfolding hierarchy
+numbered-hierarchy width height depth =
+    refuses-bind _ (numbered-agrees width) λ _. refuses-bind _ (numbered-agrees height) λ _. refuses-bind _ (numbered-agrees depth) λ _.
+    refuses-bind _ (numbered-pointer pointerSize) λ level. refuses-bind _ numbered-rest λ _. refuses-bind _ (refuses-jump level) λ _.
+    refuses-bind _ (numbered-agrees width) λ _. refuses-bind _ (numbered-agrees height) λ _. refuses-bind _ refuses-here λ place.
+    refuses-bind _ (numbered-tiles pointerSize _ 0) λ _. refuses-done
+
+numbered-side : Numbered side
+unfolding side listed
+numbered-side = refuses-bind _ refuses-here λ at. refuses-bind _ numbered-word λ n. refuses-bind _ (refuses-must _ 4 at refl) λ _. refuses-done
+
+numbered-side-like : (v : ℕ) → Numbered (sideLike v)
+unfolding sideLike listed
+numbered-side-like v = refuses-bind _ refuses-here λ at. refuses-bind _ numbered-side λ n. refuses-must _ 10 at refl
+
+numbered-layer-type : (base : ℕ) → Numbered (layerType base)
+unfolding layerType listed
+numbered-layer-type base =
+    refuses-bind _ refuses-here λ at. refuses-bind _ numbered-word λ t. refuses-bind _ (refuses-must _ 10 at refl) λ _. refuses-done
+
+numbered-fields : (kind : ℕ) → Numbered (fields pointerSize kind)
+unfolding fields
+numbered-fields kind =
+    refuses-bind _ numbered-string λ name. refuses-bind _ refuses-here λ list. refuses-bind _ (numbered-properties kind 0) λ p.
+    refuses-bind _ (numbered-pointer pointerSize) λ h. refuses-done
+
+numbered-layer : (base : ℕ) → Numbered (layer pointerSize base)
+unfolding layer
+numbered-layer base =
+    refuses-bind _ numbered-side λ width. refuses-bind _ numbered-side λ height. refuses-bind _ (numbered-layer-type base) λ form.
+    refuses-bind _ (numbered-fields 1) λ x. refuses-bind _ (numbered-number pointerSize) λ mask. refuses-done
+
+numbered-channel-rows : (o : Owner) (rows : Rows) → Numbered (channelRows pointerSize o rows)
+unfolding channelRows channel
+numbered-channel-rows o rows =
+    refuses-bind _ (refuses-bind _ (numbered-side-like _) λ _. refuses-bind _ (numbered-side-like _) λ _. numbered-fields _) λ x.
+    refuses-bind _ (refuses-jump _) λ _. refuses-bind _ (numbered-hierarchy _ _ 1) λ tiles. refuses-done
+
+numbered-mask-rows : (x : Layer) (k : ℕ) (rows : Rows) → Numbered (maskRows pointerSize x k rows)
+unfolding maskRows
+numbered-mask-rows x k rows = refuses-cond (eqb (x .mask) 0) refuses-done (refuses-bind _ (refuses-jump _) λ _. numbered-channel-rows _ rows)
+
+numbered-layer-rows : (c : Canvas) (rows : Rows) → Numbered (layerRows pointerSize c rows)
+unfolding layerRows
+numbered-layer-rows c rows =
+    refuses-bind _ (numbered-layer _) λ x. refuses-bind _ (refuses-jump _) λ _. refuses-bind _ (numbered-hierarchy _ _ _) λ tiles. numbered-mask-rows x _ _
+
+numbered-drawables : (one : Rows → Walk Rows) → ((rows : Rows) → Numbered (one rows)) → (ps : List ℕ) (rows : Rows) → Numbered (drawables one ps rows)
+unfolding drawables
+numbered-drawables one h [] rows = refuses-done
+numbered-drawables one h (p ∷ ps) rows =
+    refuses-bind _ (refuses-jump p) λ _. refuses-bind _ (h rows) λ next. numbered-drawables one h ps next
+
+numbered-pointers : (size most : ℕ) → Numbered (pointers size most)
+unfolding pointers listed
+numbered-pointers size zero =
+    refuses-bind _ refuses-here λ at. refuses-bind _ (numbered-number size) λ p. refuses-bind _ (refuses-must _ 8 at refl) λ _. refuses-done
+numbered-pointers size (suc most) =
+    refuses-bind _ (numbered-number size) λ p. refuses-cond (eqb p 0) refuses-done (refuses-bind _ (numbered-pointers size most) λ ps. refuses-done)
+
+numbered-base-type : (version : ℕ) → Numbered (baseType version)
+unfolding baseType listed
+numbered-base-type version =
+    refuses-bind _ refuses-here λ at. refuses-bind _ numbered-word λ base. refuses-bind _ (refuses-must _ 5 at refl) λ _. refuses-done
+
+numbered-head : Numbered head
+unfolding head
+numbered-head =
+    refuses-bind _ numbered-header λ version. refuses-bind _ numbered-side λ width. refuses-bind _ numbered-side λ height.
+    refuses-bind _ (numbered-base-type version) λ base. refuses-bind _ (numbered-properties 0 _) λ p. refuses-done
+
+numbered-image : Numbered (image pointerSize)
+unfolding image canvasChannelRows
+numbered-image =
+    refuses-bind _ numbered-head λ h. refuses-bind _ (numbered-pointers pointerSize 48) λ layers. refuses-bind _ (numbered-pointers pointerSize 32) λ channels.
+    refuses-bind _ (numbered-drawables _ (numbered-layer-rows _) layers _) λ first.
+    refuses-bind _ (numbered-drawables _ (λ rows. numbered-channel-rows _ rows) channels first) λ all. refuses-done
+
+pub refusals-listed : (f : List ℕ) (n p : ℕ) → refused n p ≡ run (image pointerSize) f 0 → listed refusals n ≡ true
+refusals-listed f n p e = numbered-image .number f 0 e

@@ -1,0 +1,4 @@
+pub mod RowsLoop
+pub mod Drawables
+pub mod RowsMeasured
+pub mod RowsStored

@@ -1,0 +1,5 @@
+pub mod Segments
+pub mod Scan
+pub mod Written
+pub mod SegmentsLoop
+pub mod Bound

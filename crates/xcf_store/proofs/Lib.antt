@@ -1,0 +1,7 @@
+pub mod Stores
+pub mod Parts
+pub mod RisingLoop
+pub mod Risen
+pub mod Words
+pub mod Room
+pub mod SetsApart

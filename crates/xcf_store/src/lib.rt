@@ -1,0 +1,4 @@
+// Words and bytes, read from a file and stored into an output.
+pub mod put;
+pub mod rising;
+pub mod word;

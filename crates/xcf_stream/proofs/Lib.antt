@@ -1,0 +1,4 @@
+pub mod Scattering
+pub mod StreamLaws
+pub mod StreamLoop
+pub mod StreamsLoop

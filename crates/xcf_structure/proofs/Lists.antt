@@ -1,0 +1,84 @@
+-- A drawable's property list as words: the parts that the code stores, in order, each where its test holds; and its length.
+-- Assumes nothing.
+use mathlib.Core.Path.{_≡_, refl, _∙_}
+use mathlib.Core.List.{List, [], _∷_, _++_, append-assoc}
+use mathlib.Core.Bool.{Bool, true, false, cond}
+use Prim.Native.Nat.{ℕ, _+_}
+use lib.ListN.{length, length-append}
+use lib.Dec.{eqb}
+use Rattle.xcf_property.specs.Property.{activeType}
+use Rattle.xcf_table.specs.declared.Row.{Row}
+use Rattle.xcf_usable.specs.Usable.{isLayer, visible, apply, selection, active}
+use Rattle.xcf_store.specs.Word.{wordBytes, words, when}
+use Rattle.xcf_structure.specs.Structure.{Property, propertyBytes, listBytes, worded, drawableProperties}
+use Rattle.xcf_store.proofs.Words.{words-length, when-length}
+
+pub list-append : (xs ys : List Property) → listBytes (xs ++ ys) ≡ listBytes xs ++ listBytes ys
+unfolding listBytes
+list-append [] ys = refl
+list-append (x ∷ xs) ys = rw (list-append xs ys, append-assoc)
+
+list-six : (a b c d e f : List Property) → listBytes (a ++ (b ++ (c ++ (d ++ (e ++ f))))) ≡ listBytes a ++ (listBytes b ++ (listBytes c ++ (listBytes d ++ (listBytes e ++ listBytes f))))
+list-six a b c d e f = simp list-append
+
+-- properties by a test are words by that test
+list-when : (test : Bool) (xs : List Property) (ns : List ℕ) → listBytes xs ≡ words ns → listBytes (when test xs) ≡ words (when test ns)
+unfolding listBytes words
+list-when true xs ns e = e
+list-when false xs ns e = refl
+
+-- properties of no word, of one and of two
+flag-words : (kind : ℕ) → listBytes (worded kind [] ∷ []) ≡ words (kind ∷ 0 ∷ [])
+unfolding listBytes propertyBytes words wordBytes
+flag-words kind = refl
+
+one-words : (kind a : ℕ) → listBytes (worded kind (a ∷ []) ∷ []) ≡ words (kind ∷ 4 ∷ a ∷ [])
+unfolding listBytes propertyBytes words wordBytes
+one-words kind a = refl
+
+-- opacity and visibility, mode and offsets
+shown-words : (a b : ℕ) → listBytes (worded 6 (a ∷ []) ∷ worded 8 (b ∷ []) ∷ []) ≡ words (6 ∷ 4 ∷ a ∷ 8 ∷ 4 ∷ b ∷ [])
+unfolding listBytes propertyBytes words wordBytes
+shown-words a b = refl
+
+layer-words : (a b c : ℕ) → listBytes (worded 7 (a ∷ []) ∷ worded 15 (b ∷ c ∷ []) ∷ []) ≡ words (7 ∷ 4 ∷ a ∷ 15 ∷ 8 ∷ b ∷ c ∷ [])
+unfolding listBytes propertyBytes words wordBytes
+layer-words a b c = refl
+
+-- the list as it is stored: from a part on to its end
+abbrev pub layerOn : Row → List ℕ
+layerOn r = words (when (isLayer r) (7 ∷ 4 ∷ r .mode ∷ 15 ∷ 8 ∷ r .dx ∷ r .dy ∷ [])) ++ words (0 ∷ 0 ∷ [])
+
+abbrev pub applyOn : Row → Bool → List ℕ
+applyOn r hasMask = words (when hasMask (11 ∷ 4 ∷ apply r ∷ [])) ++ layerOn r
+
+abbrev pub shownOn : Row → Bool → List ℕ
+shownOn r hasMask = words (6 ∷ 4 ∷ r .opacity ∷ 8 ∷ 4 ∷ visible r ∷ []) ++ applyOn r hasMask
+
+abbrev pub activeOn : Row → Bool → List ℕ
+activeOn r hasMask = words (when (eqb (active r) 1) (activeType (r .kind) ∷ 0 ∷ [])) ++ shownOn r hasMask
+
+abbrev pub selectionOn : Row → Bool → List ℕ
+selectionOn r hasMask = words (when (eqb (selection r) 1) (4 ∷ 0 ∷ [])) ++ activeOn r hasMask
+
+pub list-words : (r : Row) (hasMask : Bool) → listBytes (drawableProperties r hasMask) ≡ selectionOn r hasMask
+unfolding drawableProperties
+list-words r hasMask =
+    list-six
+    (when (eqb (selection r) 1) (worded 4 [] ∷ []))
+    (when (eqb (active r) 1) (worded (activeType (r .kind)) [] ∷ []))
+    (worded 6 (r .opacity ∷ []) ∷ worded 8 (visible r ∷ []) ∷ [])
+    (when hasMask (worded 11 (apply r ∷ []) ∷ []))
+    (when (isLayer r) (worded 7 (r .mode ∷ []) ∷ worded 15 (r .dx ∷ r .dy ∷ []) ∷ []))
+    (worded 0 [] ∷ [])
+    ∙ rw (
+      list-when (eqb (selection r) 1) _ _ (flag-words 4),
+      list-when (eqb (active r) 1) _ _ (flag-words (activeType (r .kind))),
+      shown-words (r .opacity) (visible r),
+      list-when hasMask _ _ (one-words 11 (apply r)),
+      list-when (isLayer r) _ _ (layer-words (r .mode) (r .dx) (r .dy)),
+      flag-words 0,
+    )
+
+pub list-length : (r : Row) (hasMask : Bool) → length (listBytes (drawableProperties r hasMask)) ≡ cond (eqb (selection r) 1) 8 0 + (cond (eqb (active r) 1) 8 0 + (24 + (cond hasMask 12 0 + (cond (isLayer r) 28 0 + 8))))
+list-length r hasMask = rw list-words (simp (length-append, when-length, words-length))

@@ -1,0 +1,57 @@
+-- The bytes that the structures of a file are written as.
+use Prim.Native.Nat.{ℕ, _+_}
+use mathlib.Core.List.{List, [], _∷_, _++_}
+use mathlib.Core.Bool.{Bool, cond}
+use lib.ListN.{length}
+use lib.Dec.{eqb}
+use Rattle.xcf_property.specs.Property.{activeType}
+use Rattle.xcf_table.specs.declared.Row.{Row}
+use Rattle.xcf_usable.specs.Usable.{isLayer, visible, apply, selection, active}
+use Rattle.xcf_store.specs.Word.{wordBytes, words, when}
+
+-- a name's length word, and its bytes closed by a zero; an empty name is a length of 0
+unfoldable pub nameBytes : List ℕ → List ℕ
+nameBytes name = cond (eqb (length name) 0) (wordBytes 0) (wordBytes (length name + 1) ++ (name ++ (0 ∷ [])))
+
+-- a property: type, length, payload
+pub record Property : Type 0 where
+  pub kind : ℕ
+  pub payload : List ℕ
+
+unfoldable pub propertyBytes : Property → List ℕ
+propertyBytes x = wordBytes (x .kind) ++ (wordBytes (length (x .payload)) ++ x .payload)
+
+unfoldable pub listBytes : List Property → List ℕ
+listBytes [] = []
+listBytes (x ∷ xs) = propertyBytes x ++ listBytes xs
+
+-- a property whose payload is some words
+abbrev pub worded : ℕ → List ℕ → Property
+worded kind ns = record { kind = kind; payload = words ns }
+
+-- the image's: type 17 with the value 1, then 0
+unfoldable pub imageProperties : List Property
+imageProperties = record { kind = 17; payload = 1 ∷ [] } ∷ worded 0 [] ∷ []
+
+-- a layer's: 2 if active, 6, 8, 11 if it has a mask, 7, 15, 0; a channel's and a mask's: 4 if selection, 3 if active, 6, 8, 0
+unfoldable pub drawableProperties : Row → Bool → List Property
+drawableProperties r hasMask =
+    when (eqb (selection r) 1) (worded 4 [] ∷ [])
+    ++ (when (eqb (active r) 1) (worded (activeType (r .kind)) [] ∷ [])
+    ++ (worded 6 (r .opacity ∷ []) ∷ worded 8 (visible r ∷ [])
+    ∷ (when hasMask (worded 11 (apply r ∷ []) ∷ [])
+    ++ (when (isLayer r) (worded 7 (r .mode ∷ []) ∷ worded 15 (r .dx ∷ r .dy ∷ []) ∷ []) ++ (worded 0 [] ∷ [])))))
+
+-- a drawable's structure: sides, a layer's type, name, properties, hierarchy pointer, a layer's mask pointer
+unfoldable pub structureBytes : Row → Bool → List ℕ → ℕ → ℕ → List ℕ
+structureBytes r hasMask name hierarchy mask =
+    words (r .width ∷ r .height ∷ when (isLayer r) (r .form ∷ []))
+    ++ (nameBytes name ++ (listBytes (drawableProperties r hasMask) ++ words (hierarchy ∷ when (isLayer r) (mask ∷ []))))
+
+-- its hierarchy, of one level
+unfoldable pub hierarchyBytes : Row → ℕ → List ℕ
+hierarchyBytes r level = words (r .width ∷ r .height ∷ r .depth ∷ level ∷ 0 ∷ [])
+
+-- its level: sides, and the pointers of its tiles
+unfoldable pub levelBytes : Row → List ℕ → List ℕ
+levelBytes r pointers = words (r .width ∷ r .height ∷ (pointers ++ (0 ∷ [])))

@@ -1,0 +1,107 @@
+// A drawable's structure: measured and stored.
+ghost use mathlib.Core.Path.{_≡_};
+ghost use mathlib.Core.Bool.{cond};
+ghost use Prim.Native.Nat.{_+_, _≤_};
+ghost use lib.ListN.{length};
+ghost use Rattle.xcf_store.specs.Put.{Put};
+ghost use Rattle.xcf_structure.specs.Structure.{nameBytes, listBytes, drawableProperties, structureBytes};
+use xcf_property::active_type;
+use xcf_store::put::put_bytes;
+use xcf_store::put::put_when;
+use xcf_store::put::put_word;
+use xcf_store::put::put_words;
+use xcf_table::Row;
+
+// n where the test holds, else 0.
+pub fn or_zero(test: bool, n: usize) -> usize
+    ensures { λ r. ⌜ r ≡ cond test n 0 ⌝ }
+{
+    if test { n } else { 0 }
+}
+
+fn name_size(name: &[u8]) -> usize
+    requires { ⌜ length (now name) ≤ 1024 ⌝ }
+    ensures { λ r. ⌜ r ≡ length (nameBytes (now (name .entry))) ⌝ }
+{
+    if name.len() == 0 {
+        return 4;
+    }
+    name.len() + 5
+}
+
+fn list_size(row: Row, masked: bool) -> usize
+    ensures { λ r. ⌜ (r ≡ length (listBytes (drawableProperties row masked))) × (r ≤ 88) ⌝ }
+{
+    let selection = or_zero(row.flags / 4 % 2 == 1, 8);
+    let active = or_zero(row.flags / 8 % 2 == 1, 8);
+    let apply = or_zero(masked, 12);
+    let layer = or_zero(row.kind == 1, 28);
+    selection + (active + (24 + (apply + (layer + 8))))
+}
+
+// The length of a drawable's structure.
+pub fn structure_size(row: Row, masked: bool, name: &[u8]) -> usize
+    requires { ⌜ length (now name) ≤ 1024 ⌝ }
+    ensures { λ r. ⌜ (r ≡ length (structureBytes row masked (now (name .entry)) 0 0)) × (r ≤ 1200) ⌝ }
+{
+    let form = or_zero(row.kind == 1, 4);
+    let named = name_size(name);
+    let list = list_size(row, masked);
+    8 + form + (named + (list + (4 + form)))
+}
+
+fn put_name(output: &mut [u8], to: usize, name: &[u8]) -> usize
+    requires { ⌜ (length (now name) ≤ 1024) × (to + length (nameBytes (now name)) ≤ length (now output)) ⌝ }
+    ensures { λ r. ⌜ Put (now (output .entry)) to (nameBytes (now (name .entry))) r (now (output .exit)) ⌝ }
+{
+    if name.len() == 0 {
+        return put_word(output, to, 0);
+    }
+    let start = put_word(output, to, name.len() as u32 + 1);
+    let end = put_bytes(output, start, name);
+    output[end] = 0;
+    end + 1
+}
+
+fn put_list(output: &mut [u8], to: usize, row: Row, masked: bool) -> usize
+    requires { ⌜ to + length (listBytes (drawableProperties row masked)) ≤ length (now output) ⌝ }
+    ensures { λ r. ⌜ Put (now (output .entry)) to (listBytes (drawableProperties row masked)) r (now (output .exit)) ⌝ }
+{
+    let selection = put_when(output, to, row.flags / 4 % 2 == 1, &[4, 0]);
+    let active = put_when(
+        output,
+        selection,
+        row.flags / 8 % 2 == 1,
+        &[active_type(row.kind), 0],
+    );
+    let visible = put_words(output, active, &[6, 4, row.opacity, 8, 4, row.flags % 2]);
+    let apply = put_when(output, visible, masked, &[11, 4, row.flags / 2 % 2]);
+    let layer = put_when(
+        output,
+        apply,
+        row.kind == 1,
+        &[7, 4, row.mode, 15, 8, row.dx, row.dy],
+    );
+    put_words(output, layer, &[0, 0])
+}
+
+// A drawable's structure, with the pointers to its hierarchy and its mask.
+pub fn put_structure(
+    output: &mut [u8],
+    to: usize,
+    row: Row,
+    masked: bool,
+    name: &[u8],
+    hierarchy: u32,
+    mask: u32,
+) -> usize
+    requires { ⌜ (length (now name) ≤ 1024) × (to + length (structureBytes row masked (now name) hierarchy mask) ≤ length (now output)) ⌝ }
+    ensures { λ r. ⌜ Put (now (output .entry)) to (structureBytes row masked (now (name .entry)) hierarchy mask) r (now (output .exit)) ⌝ }
+{
+    let sides = put_words(output, to, &[row.width, row.height]);
+    let form = put_when(output, sides, row.kind == 1, &[row.form]);
+    let named = put_name(output, form, name);
+    let list = put_list(output, named, row, masked);
+    let link = put_word(output, list, hierarchy);
+    put_when(output, link, row.kind == 1, &[mask])
+}

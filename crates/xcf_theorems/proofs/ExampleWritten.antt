@@ -1,0 +1,38 @@
+-- The example file of document 01 is written: the tests of its table and its bytes are computed.
+-- Assumes nothing.
+use mathlib.Core.Path.{_≡_, refl}
+use mathlib.Core.List.{[], _∷_}
+use borrow.Author.Tests.{le-leb}
+use lib.ListN.{length}
+use Rattle.xcf_property.specs.Property.{activeType}
+use Rattle.xcf_table.specs.Table.{rowAt}
+use Rattle.xcf_segment.specs.Segment.{leading, equalBytes, copiedBytes, firstSegment, segmentsWithin, segments, written, writtenAll, encodeStream}
+use Rattle.xcf_encode.specs.Tile.{plane, planes, encodeAll, encodeTile}
+use Rattle.xcf_table.specs.declared.canvas.Canvas.{Canvas}
+use Rattle.xcf_table.specs.Canvas.{sideOk, typeOk, depthOf}
+use Rattle.xcf_grid.specs.Pixels.{tabulate, shown}
+use Rattle.xcf_usable.specs.Usable.{before, rowBefore, seenAt, masked, drawableOk, layerOk, layerFollows, channelOk, maskFollows, channelFollows, allZero, usableRow, usable, badFrom, badRow}
+use Rattle.xcf_store.specs.Word.{wordBytes, words}
+use Rattle.xcf_structure.specs.Structure.{nameBytes, propertyBytes, listBytes, imageProperties, drawableProperties, structureBytes, hierarchyBytes, levelBytes}
+use Rattle.xcf_drawable.specs.Drawable.{encodings, tilesOf, joined, starts, structureSize, drawableSize, drawableBytes}
+use Rattle.xcf_rows.specs.Rows.{drawablesBytes, usedFrom, pixelsSize, drawablesFrom}
+use Rattle.xcf_write.specs.File.{placesOf, versionOf, imageSize, fileBytes}
+use Rattle.xcf_image.specs.Image.{imageBytes}
+use Rattle.xcf_write.specs.Answer.{answered, fileOf, rowsRefusal, inputRefusal, writeAnswer, writeOutput, writing}
+use Rattle.xcf_theorems.specs.ExampleFile.{exampleFile, exampleTable}
+use Rattle.xcf_theorems.specs.Statements.{ExampleFileIsWritten}
+
+abbrev canvas : Canvas
+canvas = record { width = 1; height = 1; base = 1 }
+
+accepted : inputRefusal canvas exampleTable 1 1 ≡ answered 0 0 0
+unfolding rowAt sideOk typeOk depthOf before rowBefore seenAt masked drawableOk layerOk layerFollows channelOk maskFollows channelFollows allZero usableRow usable badFrom badRow usedFrom pixelsSize rowsRefusal inputRefusal
+accepted = refl
+
+file : fileOf canvas exampleTable (115 ∷ []) (255 ∷ []) ≡ exampleFile
+unfolding rowAt leading equalBytes copiedBytes firstSegment segmentsWithin segments written writtenAll encodeStream plane planes encodeAll encodeTile tabulate shown activeType masked wordBytes words nameBytes propertyBytes listBytes imageProperties drawableProperties structureBytes hierarchyBytes levelBytes encodings tilesOf joined starts structureSize drawableSize drawableBytes drawablesBytes placesOf versionOf imageBytes imageSize fileBytes usedFrom drawablesFrom fileOf
+file = refl
+
+pub example-written : ExampleFileIsWritten
+unfolding writing writeAnswer writeOutput
+example-written output h = rw (accepted, file, le-leb 143 (length output) h)

@@ -1,0 +1,131 @@
+-- The theorems of `specs/Statements.antt`, each proved by a citation; the examples by computing them.
+-- Assumes nothing.
+use mathlib.Core.Path.{refl}
+use mathlib.Core.List.{[]}
+use native.Mathlib.Nat.{zero-add, mul-le-mul}
+use native.Mathlib.Omega.{arith}
+use Rattle.xcf_operation.specs.Operation.{headOf, headAt, operationOf, operationAt}
+use Rattle.xcf_stream.specs.Stream.{streamFrom, streamWithin, streamAt}
+use Rattle.xcf_stream.specs.Streams.{streamsAt}
+use Rattle.xcf_tile.specs.Tile.{pixel, interleave, encodedTile, tileIn, tileOf}
+use Rattle.xcf_tile_laws.proofs.Consumed.{consumed-decides}
+use Rattle.xcf_tile_laws.proofs.Pixels.{pixels-are-streams as streams-give-pixels, pixels-length, marked-zero}
+use Rattle.xcf_segment.specs.Segment.{leading, equalBytes, copiedBytes, firstSegment, segmentsWithin, segments, written, writtenAll, encodeStream}
+use Rattle.xcf_segment.proofs.Bound.{bound}
+use Rattle.xcf_encode_laws.proofs.ReadBack.{stream-read-back}
+use Rattle.xcf_encode.proofs.TileBound.{tile-bound}
+use Rattle.xcf_encode_laws.proofs.TileReadBack.{tile-read-back}
+use Rattle.xcf_walk_laws.proofs.Depends.{outcome-depends}
+use Rattle.xcf_read_laws.proofs.Accepted.{accepted-exactly}
+use Rattle.xcf_read_laws.proofs.ReadDepends.{read-depends}
+use Rattle.xcf_read_laws.proofs.Numbers.{refusals-listed}
+use Rattle.xcf_tile_laws.proofs.Marks.{mark-listed}
+use Rattle.xcf_grid.proofs.PixelLaws.{pixel-byte, one-tile, tile-shown}
+use Rattle.xcf_isolation.proofs.Counted.{count-decoded}
+use Rattle.xcf_isolation.proofs.Refused.{decoder-listed}
+use Rattle.xcf_isolation.proofs.RowDecoded.{row-decoded}
+use Rattle.xcf_isolation.proofs.Isolated.{isolated}
+use Rattle.xcf_theorems.proofs.WriterNumbers.{writer-listed}
+use Rattle.xcf_theorems.proofs.ListerNumbers.{lister-listed}
+use Rattle.xcf_round_trip.proofs.RoundTrip.{round-trip}
+use Rattle.xcf_round_trip.proofs.GivenTaken.{given-is-taken}
+use Rattle.xcf_round_trip.proofs.TakenExcepted.{taken-is-excepted}
+use Rattle.xcf_theorems.proofs.ExampleRead.{example-read}
+use Rattle.xcf_theorems.proofs.ExampleWritten.{example-written}
+use Rattle.xcf_theorems.proofs.ExampleDamaged.{example-damaged}
+use Rattle.xcf_theorems.specs.Statements.{ExamplesHold, PassedBytesDecide, StructureBytesDecide, RefusalsAreListed, AcceptedWithoutFault, ExampleFileIsRead, WrittenReadsBack, GivenRowsAreTaken, TakenRowsAreExcepted, ExampleFileIsWritten, WriterRefusalsAreListed, ListerRefusalsAreListed, DamageIsIsolated, ExampleIsDamaged, AcceptedRowsDecode, PixelsAreTheirTiles, EachPixelHasOneTile, TilesAreShown, DecoderRefusalsAreListed, CountIsTheDecoders, MarksAreListed, ConsumedBytesDecide, ConsumedBytesDecideTheCall, PixelsAreStreams, PixelsAreWhole, MarkedPixelsAreZero, EncodedStreamBounded, StreamReadsBack, TileReadsBack, EncodedTileFits}
+
+pub examples-hold : ExamplesHold
+unfolding headOf headAt operationOf operationAt streamFrom streamWithin streamAt streamsAt pixel interleave encodedTile tileIn tileOf leading equalBytes copiedBytes firstSegment segmentsWithin segments written writtenAll encodeStream
+examples-hold =
+    (refl, (refl, (refl, (refl, (refl, (refl, (refl, (refl, (refl, (refl, (refl, (refl, ((refl, (refl, refl)), tt)))))))))))))
+
+pub passed-bytes-decide : PassedBytesDecide
+passed-bytes-decide A = outcome-depends
+
+pub structure-bytes-decide : StructureBytesDecide
+structure-bytes-decide = read-depends
+
+pub refusals-are-listed : RefusalsAreListed
+refusals-are-listed = refusals-listed
+
+pub accepted-without-fault : AcceptedWithoutFault
+accepted-without-fault = accepted-exactly
+
+pub example-file-is-read : ExampleFileIsRead
+example-file-is-read = example-read
+
+pub written-reads-back : WrittenReadsBack
+written-reads-back = round-trip
+
+pub given-rows-are-taken : GivenRowsAreTaken
+given-rows-are-taken = given-is-taken
+
+pub taken-rows-are-excepted : TakenRowsAreExcepted
+taken-rows-are-excepted = taken-is-excepted
+
+pub example-file-is-written : ExampleFileIsWritten
+example-file-is-written = example-written
+
+pub writer-refusals-are-listed : WriterRefusalsAreListed
+writer-refusals-are-listed = writer-listed
+
+pub lister-refusals-are-listed : ListerRefusalsAreListed
+lister-refusals-are-listed = lister-listed
+
+pub damage-is-isolated : DamageIsIsolated
+damage-is-isolated = isolated
+
+pub example-is-damaged : ExampleIsDamaged
+example-is-damaged = example-damaged
+
+pub accepted-rows-decode : AcceptedRowsDecode
+accepted-rows-decode = row-decoded
+
+pub pixels-are-their-tiles : PixelsAreTheirTiles
+pixels-are-their-tiles = pixel-byte
+
+pub each-pixel-has-one-tile : EachPixelHasOneTile
+each-pixel-has-one-tile = one-tile
+
+pub tiles-are-shown : TilesAreShown
+tiles-are-shown = tile-shown
+
+pub decoder-refusals-are-listed : DecoderRefusalsAreListed
+decoder-refusals-are-listed = decoder-listed
+
+pub count-is-the-decoders : CountIsTheDecoders
+count-is-the-decoders = count-decoded
+
+pub marks-are-listed : MarksAreListed
+marks-are-listed = mark-listed
+
+pub consumed-bytes-decide : ConsumedBytesDecide
+consumed-bytes-decide = consumed-decides
+
+pub consumed-bytes-decide-the-call : ConsumedBytesDecideTheCall
+consumed-bytes-decide-the-call window other w h depth compression good long same old new answer d =
+    let e = consumed-decides window other w h depth compression good long same in
+    record { answer = rw e (d .answer); pixels = rw e (d .pixels) }
+
+pub pixels-are-streams : PixelsAreStreams
+pixels-are-streams = streams-give-pixels
+
+pub pixels-are-whole : PixelsAreWhole
+pixels-are-whole = pixels-length
+
+pub marked-pixels-are-zero : MarkedPixelsAreZero
+marked-pixels-are-zero = marked-zero
+
+pub encoded-stream-bounded : EncodedStreamBounded
+encoded-stream-bounded = bound
+
+pub stream-reads-back : StreamReadsBack
+stream-reads-back bytes rest = rw zero-add at (stream-read-back [] bytes rest)
+
+pub tile-reads-back : TileReadsBack
+tile-reads-back = tile-read-back
+
+pub encoded-tile-fits : EncodedTileFits
+encoded-tile-fits w h depth pixels wide high deep =
+    let most = tile-bound _ depth pixels (mul-le-mul wide high) deep in (most, omega (arith, most))

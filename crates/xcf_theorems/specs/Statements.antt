@@ -1,0 +1,223 @@
+-- The theorems of the library, each in full. `proofs/Theorems.antt` proves each by a citation.
+use mathlib.Core.Path.{_≡_}
+use mathlib.Core.Bool.{true}
+use mathlib.Core.Logic.{_⊎_}
+use mathlib.Core.List.{List, [], _∷_, _++_}
+use Prim.Native.Nat.{ℕ, _+_, _-_, _*_, _/_, _≤_, _<_}
+use lib.ListN.{length, getD, take, drop, replicate}
+use Rattle.xcf_stream.specs.Stream.{streamAt}
+use Rattle.xcf_stream.specs.Streams.{streamsAt}
+use Rattle.xcf_tile.specs.Tile.{tileOf, windowLimit}
+use Rattle.xcf_tile.specs.declared.TileAnswer.{TileAnswer}
+use Rattle.xcf_tile.specs.Answer.{Decoded}
+use Rattle.xcf_segment.specs.Segment.{segments, encodeStream}
+use Rattle.xcf_encode.specs.Tile.{planes, operationsOf, encodeTile}
+use Rattle.xcf_walk.specs.Walk.{Walk, got, refused, run, PassedOver}
+use Rattle.xcf_table.specs.Table.{rowSize, tableSize, rowAt, fileLimit}
+use Rattle.xcf_parse.specs.Hierarchy.{pointerSize}
+use Rattle.xcf_read.specs.Image.{Image, image, structureByte}
+use Rattle.xcf_read.specs.Answer.{refusals, listed, reading, rowOf}
+use Rattle.xcf_grid.specs.Grid.{tileWidth, tileHeight, tileCount}
+use Rattle.xcf_grid.specs.Pixels.{HasPixel, tileAt, byteOf, byteIn, pixelsOf, shown}
+use Rattle.xcf_window.specs.Usable.{fits}
+use Rattle.xcf_decode.specs.Answer.{decoderNumbers, rowDecoding, decoding, counting}
+use Rattle.xcf_isolation.specs.Isolation.{Isolation}
+use Rattle.xcf_table.specs.declared.canvas.Canvas.{Canvas}
+use Rattle.xcf_write.specs.Answer.{writing, writerNumbers}
+use Rattle.xcf_listing.specs.Listing.{listAnswer, listerNumbers}
+use Rattle.xcf_round_trip.specs.RoundTrip.{RoundTrip}
+use Rattle.xcf_round_trip.specs.Taken.{GivenIsTaken, TakenIsExcepted}
+use Rattle.xcf_theorems.specs.DamagedExample.{DamagedExample}
+use Rattle.xcf_theorems.specs.ExampleFile.{exampleFile, exampleRow, exampleTable}
+use Rattle.xcf_theorems.specs.Examples.{table, All}
+
+-- The worked examples of document 01 hold.
+abbrev pub ExamplesHold : Type 0
+ExamplesHold = All table
+
+-- What any walk gives depends on the file's length and on the bytes that it passes over.
+abbrev pub PassedBytesDecide : Type 1
+PassedBytesDecide =
+    (A : Type 0) (w : Walk A) (file other : List ℕ) (at : ℕ) → length file ≡ length other
+    → ((i : ℕ) → PassedOver w file at i → getD file i 0 ≡ getD other i 0)
+    → run w file at ≡ run w other at
+
+-- So for one lent table, what the reader answers and leaves there depends on the file's length and its structure bytes.
+abbrev pub StructureBytesDecide : Type 0
+StructureBytesDecide =
+    (file other table : List ℕ) → length file ≡ length other
+    → ((i : ℕ) → structureByte file i → getD file i 0 ≡ getD other i 0)
+    → reading file table ≡ reading other table
+
+-- A refusal of the walk has a number of document 01.
+abbrev pub RefusalsAreListed : Type 0
+RefusalsAreListed = (file : List ℕ) (n p : ℕ) → refused n p ≡ run (image pointerSize) file 0 → listed refusals n ≡ true
+
+-- A file that is not too long, with a table of the right length, is accepted exactly when the walk meets no fault.
+abbrev pub AcceptedWithoutFault : Type 0
+AcceptedWithoutFault =
+    (file table : List ℕ) → length table ≡ tableSize → length file ≤ fileLimit
+    → (reading file table .answer .number ≡ 0 → (x : Image) × (q : ℕ) × (got x q ≡ run (image pointerSize) file 0))
+    × ((x : Image) (q : ℕ) → got x q ≡ run (image pointerSize) file 0 → reading file table .answer .number ≡ 0)
+
+-- The example file of document 01 is accepted with its canvas and its row.
+abbrev pub ExampleFileIsRead : Type 0
+ExampleFileIsRead =
+    (table : List ℕ) → length table ≡ tableSize
+    → reading exampleFile table
+    ≡ record {
+      answer = record { number = 0; place = 0; width = 1; height = 1; base = 1; version = 0; compression = 1; rows = 1 };
+      table = exampleRow ++ replicate (tableSize - rowSize) 0;
+    }
+
+-- Demand 2's second half: what the writer writes reads back as the same rows, names and pixels, with no tile marked; only the rows'
+-- places differ. One claim over every input that the writer accepts, in full in `xcf_round_trip/specs/RoundTrip.antt`.
+abbrev pub WrittenReadsBack : Type 0
+WrittenReadsBack = RoundTrip
+
+-- And no row that a reader gave is bad for the writer, but for what document 01 excepts; in full in `xcf_round_trip/specs/Taken.antt`.
+abbrev pub GivenRowsAreTaken : Type 0
+GivenRowsAreTaken = GivenIsTaken
+
+-- The other way round, where no row is bad, all that document 01 excepts holds of them.
+abbrev pub TakenRowsAreExcepted : Type 0
+TakenRowsAreExcepted = TakenIsExcepted
+
+-- The example file is written byte for byte, and the output beyond it is unchanged.
+abbrev pub ExampleFileIsWritten : Type 0
+ExampleFileIsWritten =
+    (output : List ℕ) → 143 ≤ length output
+    → writing (record { width = 1; height = 1; base = 1 }) exampleTable (115 ∷ []) (255 ∷ []) output
+    ≡ record { answer = record { number = 0; place = 0; length = 143 }; output = exampleFile ++ drop 143 output }
+
+-- The writer answers 0, 4, 5, 11, 17 or 18.
+abbrev pub WriterRefusalsAreListed : Type 0
+WriterRefusalsAreListed =
+    (c : Canvas) (table names pixels output : List ℕ) → listed writerNumbers (writing c table names pixels output .answer .number) ≡ true
+
+-- What is answered beside a listing has number 0, 11, 15 or one of the walk's.
+abbrev pub ListerRefusalsAreListed : Type 0
+ListerRefusalsAreListed =
+    (limit : ℕ) (file table : List ℕ) (room : ℕ) → listed listerNumbers (listAnswer limit file table room .number) ≡ true
+
+-- Demand 3: damage inside the windows of some tiles changes nothing outside them. One claim over all rows and tiles of any accepted
+-- file, in full in `xcf_decode/specs/Isolation.antt`.
+abbrev pub DamageIsIsolated : Type 1
+DamageIsIsolated = Isolation
+
+-- It is not empty: a copy of a file of two tiles, with a byte of the first tile's window changed, is damaged so; that tile is good in
+-- one file and marked in the other.
+abbrev pub ExampleIsDamaged : Type 0
+ExampleIsDamaged =
+    (lent pixels marks : List ℕ) → length lent ≡ tableSize → length pixels ≡ 65 → length marks ≡ 2 → DamagedExample lent pixels marks
+
+-- The decoder refuses no row of an accepted file, where the lent buffers fit.
+abbrev pub AcceptedRowsDecode : Type 0
+AcceptedRowsDecode =
+    (file lent : List ℕ) →
+    let x = reading file lent in
+    x .answer .number ≡ 0 → (k : ℕ) → k < x .answer .rows → (pixels marks : List ℕ) → fits (rowOf x k) (length pixels) (length marks) ≡ true
+    → decoding file (x .table) k (x .answer .compression) pixels marks ≡ rowDecoding pointerSize file (rowOf x k) (x .answer .compression)
+
+-- Byte k of pixel (x, y) of a drawable is byte k of that pixel in its own tile.
+abbrev pub PixelsAreTheirTiles : Type 0
+PixelsAreTheirTiles =
+    (tiles : ℕ → List ℕ) (width height depth x y k : ℕ) → x < width → y < height → k < depth
+    → getD (pixelsOf tiles width height depth) (byteOf width depth x y k) 0 ≡ byteIn tiles width depth x y k
+
+-- Each pixel has exactly one tile.
+abbrev pub EachPixelHasOneTile : Type 0
+EachPixelHasOneTile =
+    (width height x y : ℕ) → x < width → y < height
+    → (tileAt width x y < tileCount width height)
+    × HasPixel width height (tileAt width x y) x y
+    × ((t : ℕ) → t < tileCount width height → HasPixel width height t x y → t ≡ tileAt width x y)
+
+-- So what a drawable's pixels show of a tile is that tile.
+abbrev pub TilesAreShown : Type 0
+TilesAreShown =
+    (tiles : ℕ → List ℕ) (width height depth t : ℕ) → 1 ≤ width → 1 ≤ depth → t < tileCount width height
+    → length (tiles t) ≡ tileWidth width t * tileHeight width height t * depth
+    → shown width height depth t (pixelsOf tiles width height depth) ≡ tiles t
+
+-- The decoder answers 0, 11, 13, 14 or 15.
+abbrev pub DecoderRefusalsAreListed : Type 0
+DecoderRefusalsAreListed =
+    (file table : List ℕ) (k compression : ℕ) (pixels marks : List ℕ)
+    → listed decoderNumbers (decoding file table k compression pixels marks .answer .number) ≡ true
+
+-- The count of marked tiles that asks for no buffers is the decoder's.
+abbrev pub CountIsTheDecoders : Type 0
+CountIsTheDecoders =
+    (file table : List ℕ) (k compression : ℕ) (pixels marks : List ℕ) → fits (rowAt table k) (length pixels) (length marks) ≡ true
+    → counting file table k compression ≡ decoding file table k compression pixels marks .answer
+
+-- A tile's mark is 0, 20 or 21.
+abbrev pub MarksAreListed : Type 0
+MarksAreListed =
+    (window : List ℕ) (w h depth compression : ℕ) →
+    let m = tileOf window w h depth compression .mark in (m ≡ 0) ⊎ ((m ≡ 20) ⊎ (m ≡ 21))
+
+-- A good tile depends only on the bytes it consumed: another window that has them first gives the same tile.
+abbrev pub ConsumedBytesDecide : Type 0
+ConsumedBytesDecide =
+    (window other : List ℕ) (w h depth compression : ℕ) →
+    let t = tileOf window w h depth compression in
+    t .mark ≡ 0 → t .consumed ≤ length other → take (t .consumed) window ≡ take (t .consumed) other →
+    tileOf other w h depth compression ≡ t
+
+-- So a call with the other window gives the same answer and leaves the same pixels.
+abbrev pub ConsumedBytesDecideTheCall : Type 0
+ConsumedBytesDecideTheCall =
+    (window other : List ℕ) (w h depth compression : ℕ) →
+    let t = tileOf window w h depth compression in
+    t .mark ≡ 0 → t .consumed ≤ length other → take (t .consumed) window ≡ take (t .consumed) other →
+    (old new : List ℕ) (answer : TileAnswer) → Decoded window w h depth compression old answer new → Decoded other w h depth compression old answer new
+
+-- Byte m of pixel i of a good encoded tile is byte i of its stream m.
+abbrev pub PixelsAreStreams : Type 0
+PixelsAreStreams =
+    (window : List ℕ) (w h depth m i : ℕ) →
+    let s = streamsAt depth (take windowLimit window) 0 (w * h) in
+    let t = tileOf window w h depth 1 in
+    t .mark ≡ 0 → m < depth → i < w * h → getD (t .pixels) (m + depth * i) 0 ≡ getD (getD (s .planes) m []) i 0
+
+-- A tile has as many bytes as its pixels, marked or not.
+abbrev pub PixelsAreWhole : Type 0
+PixelsAreWhole = (window : List ℕ) (w h depth compression : ℕ) → length (tileOf window w h depth compression .pixels) ≡ w * h * depth
+
+-- All pixels of a marked tile are zero.
+abbrev pub MarkedPixelsAreZero : Type 0
+MarkedPixelsAreZero =
+    (window : List ℕ) (w h depth compression : ℕ) →
+    let t = tileOf window w h depth compression in (t .mark ≡ 0 → ⊥) → t .pixels ≡ replicate (w * h * depth) 0
+
+-- A stream of n bytes takes at most n + 3 + 2·⌊n/131⌋ bytes.
+abbrev pub EncodedStreamBounded : Type 0
+EncodedStreamBounded = (bytes : List ℕ) → length (encodeStream bytes) ≤ length bytes + 3 + 2 * (length bytes / 131)
+
+-- What was encoded, followed by any bytes at all, decodes to itself: good, the same bytes, exactly the encoding consumed, its
+-- operations counted.
+abbrev pub StreamReadsBack : Type 0
+StreamReadsBack =
+    (bytes rest : List ℕ) →
+    streamAt (encodeStream bytes ++ rest) 0 (length bytes)
+    ≡ record { mark = 0; at = length (encodeStream bytes); operations = length (segments bytes); bytes = bytes }
+
+-- The same of a tile, of any sides and depth that a tile can have.
+abbrev pub TileReadsBack : Type 0
+TileReadsBack =
+    (w h depth : ℕ) (pixels rest : List ℕ) → w ≤ 64 → h ≤ 64 → depth ≤ 4 → length pixels ≡ w * h * depth →
+    tileOf (encodeTile (w * h) depth pixels ++ rest) w h depth 1
+    ≡ record {
+      mark = 0;
+      consumed = length (encodeTile (w * h) depth pixels);
+      operations = operationsOf (planes depth 0 (w * h) depth pixels);
+      pixels = pixels;
+    }
+
+-- An encoded tile takes at most 16,644 bytes, so it fits its window.
+abbrev pub EncodedTileFits : Type 0
+EncodedTileFits =
+    (w h depth : ℕ) (pixels : List ℕ) → w ≤ 64 → h ≤ 64 → depth ≤ 4 →
+    let size = length (encodeTile (w * h) depth pixels) in (size ≤ 16644) × (size < windowLimit)

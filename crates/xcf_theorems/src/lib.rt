@@ -1,0 +1,1 @@
+// The page of theorems: statements and proofs only.

@@ -1,0 +1,3 @@
+pub mod Consumed
+pub mod Pixels
+pub mod Marks

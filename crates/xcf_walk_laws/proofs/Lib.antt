@@ -1,0 +1,4 @@
+pub mod Depends
+pub mod Refusals
+pub mod Ensures
+pub mod Passes

@@ -1,0 +1,1 @@
+// What a walk depends on, ensures, refuses with and passes over: proofs only.

@@ -1,0 +1,3 @@
+pub mod TilePointers
+pub mod Cuts
+pub mod OneTile

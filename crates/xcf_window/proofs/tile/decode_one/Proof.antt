@@ -1,0 +1,89 @@
+-- `decode_one` meets its contract: the window lies in the file, the pixels fit the scratch, and what the decoding gives is the tile's.
+use Prim.Native.Nat.{_*_, _≤_, _<_}
+use mathlib.Core.Path.{sym}
+use native.Mathlib.Omega.{arith}
+use borrow.Author.Needs.{needs}
+use lib.ListN.{length}
+use lib.Seq.{length-take-le}
+use Rattle.xcf_parse.specs.Hierarchy.{pointerSize}
+use Rattle.xcf_window.proofs.OneTile.{pointers-inside, mark-small, pixels-small, scratched}
+use Rattle.xcf_window.proofs.TilePointers.{window-inside}
+use Rattle.xcf_window.proofs.tile.decode_one.Statement.{statement}
+use Rattle.xcf_window.proofs.tile.decode_one.Tie as tie
+
+pixels-fit : (s : tie.Start) → (s .args .frame .width * s .args .frame .height ≤ 4096) × (s .args .frame .width * s .args .frame .height * s .args .row .depth ≤ 16384)
+pixels-fit s = let p = s .pre in pixels-small (p .0) (p .1 .0) (p .1 .1)
+
+window-in-file : (w : tie.After-window-end) → (w .before .pointer-at .result < w .window-end .result) × (w .window-end .result ≤ length (w .before .before .before .before .args .file .now))
+window-in-file w =
+    let s = w .before .before .before .before in
+    let i = window-inside pointerSize (s .args .file .now) (s .args .row) (s .pre .0 .pointers) (s .args .t) (s .pre .1 .0) in
+    (omega (arith, i .0, w .before .pointer-at .ensures, w .window-end .ensures), omega (arith, i .1, w .window-end .ensures))
+
+pointer-at-requires : tie.Need-pointer-at-requires
+pointer-at-requires c κs = let p = c .before .before .pre in omega (arith, pointers-inside (p .0), p .1 .0)
+
+window-end-requires : tie.Need-window-end-requires
+window-end-requires c κs = let p = c .before .before .before .pre in (p .1 .0, pointers-inside (p .0))
+
+mul-size : tie.Need-mul-size
+mul-size c = omega (arith, pixels-fit (c .before .before .before .before .before) .0)
+
+mul-size-2 : tie.Need-mul-size-2
+mul-size-2 c = omega (arith, pixels-fit (c .before .before .before .before .before .before) .1)
+
+cast-size : tie.Need-cast-size
+cast-size c = omega (arith, pixels-fit (c .before .before .before .before .before .before) .1)
+
+sub-decode-tile : tie.Need-sub-decode-tile
+sub-decode-tile c = omega (arith, window-in-file (c .before .before) .0)
+
+part-decode-tile-start : tie.Need-part-decode-tile-start
+part-decode-tile-start c = omega (arith, window-in-file (c .before .before) .0)
+
+part-decode-tile-end : tie.Need-part-decode-tile-end
+part-decode-tile-end c = omega (arith, window-in-file (c .before .before) .1)
+
+slice-relend-prefix-decode-tile : tie.Need-slice-relend-prefix-decode-tile
+slice-relend-prefix-decode-tile c = let s = c .before .before .before .before .before .before .before in omega (arith, pixels-fit s .1, s .pre .1 .2)
+
+slice-aggregate-decode-tile : tie.Need-slice-aggregate-decode-tile
+slice-aggregate-decode-tile c =
+    let s = c .before .before .before .before .before .before .before .before in
+    sym (length-take-le _ _ (omega (arith, pixels-fit s .1, s .pre .1 .2)))
+
+decode-tile-requires : tie.Need-decode-tile-requires
+decode-tile-requires c κs = search needs
+
+returns : tie.Need-returns
+returns c =
+    let w = c .before .before .before .before .before .before .before .before in
+    let p = w .before .before .before .before .pre in
+    scratched (p .0) (p .1 .0) (p .1 .1) (w .before .pointer-at .ensures) (w .window-end .ensures) (p .1 .2) (c .before .before .before .decode-tile .ensures)
+
+cast-result : tie.Need-cast-result
+cast-result c =
+    let a = c .before .before .before .before .before .before .before .before .before .before .before .before .args in
+    omega (arith, returns c .mark, mark-small pointerSize (a .file .now) (a .row) (a .compression) (a .t))
+
+same-length : tie.Need-same-length
+same-length c = search needs
+
+pub decode-one-spec : {M : Type 1} → statement M
+decode-one-spec =
+    tie.close
+    (tie.spec
+    pointer-at-requires
+    window-end-requires
+    mul-size
+    mul-size-2
+    cast-size
+    sub-decode-tile
+    part-decode-tile-start
+    part-decode-tile-end
+    slice-relend-prefix-decode-tile
+    slice-aggregate-decode-tile
+    decode-tile-requires
+    cast-result
+    same-length
+    returns)

@@ -1,0 +1,3 @@
+pub mod Window
+pub mod Usable
+pub mod Parts

@@ -1,0 +1,30 @@
+-- The contracts of a row's tile, by name.
+use Prim.Native.Nat.{ℕ, _≤_}
+use mathlib.Core.Path.{_≡_}
+use mathlib.Core.List.{List}
+use lib.ListN.{length, take}
+use Rattle.xcf_walk.specs.Walk.{got, run}
+use Rattle.xcf_table.specs.declared.Row.{Row}
+use Rattle.xcf_grid.specs.Grid.{tileCount}
+use Rattle.xcf_tile.specs.Tile.{Tile}
+use Rattle.xcf_parse.specs.Hierarchy.{pointerSize, tiles}
+
+-- a row whose numbers are in range
+pub record Usable (r : Row) (compression : ℕ) : Type 0 where
+  pub wide : (1 ≤ r .width) × (r .width ≤ 16384)
+  pub high : (1 ≤ r .height) × (r .height ≤ 16384)
+  pub deep : (1 ≤ r .depth) × (r .depth ≤ 4)
+  pub count : r .count ≡ tileCount (r .width) (r .height)
+  pub way : compression ≤ 1
+
+-- and whose tile pointers are right in the file f
+pub record Ready (f : List ℕ) (r : Row) (compression : ℕ) : Type 0 where
+  pub usable : Usable r compression
+  pub end : ℕ
+  pub pointers : got tt end ≡ run (tiles pointerSize (r .count) 0) f (r .tiles)
+
+-- the tile's mark, and its pixels at the start of a scratch that keeps its length
+pub record Scratched (t : Tile) (m : ℕ) (old new : List ℕ) : Type 0 where
+  pub mark : m ≡ t .mark
+  pub size : length new ≡ length old
+  pub pixels : take (length (t .pixels)) new ≡ t .pixels

@@ -1,0 +1,59 @@
+// A tile's window, and the tile decoded from it.
+ghost use mathlib.Core.Path.{_≡_};
+ghost use Prim.Native.Nat.{_+_, _*_, _≤_, _<_};
+ghost use lib.ListN.{length};
+ghost use Rattle.xcf_parse.specs.Hierarchy.{pointerSize};
+ghost use Rattle.xcf_window.specs.Window.{pointerAt, windowEnd, tile};
+ghost use Rattle.xcf_window.specs.Parts.{Ready, Scratched};
+ghost use Rattle.xcf_grid.specs.Parts.{frameOf};
+use xcf_grid::frame::Frame;
+use xcf_store::word::word_in;
+use xcf_table::Row;
+use xcf_tile::decode_tile;
+
+// The pointer of tile t.
+fn pointer_at(file: &[u8], row: Row, t: u32) -> usize
+    requires { ⌜ row .tiles + 4 * (t + 1) ≤ length (now file) ⌝ }
+    ensures { λ r. ⌜ r ≡ pointerAt pointerSize (now (file .entry)) row t ⌝ }
+{
+    word_in(file, row.tiles as usize + 4 * (t as usize)) as usize
+}
+
+// Where the window of tile t ends, before it is cut.
+fn window_end(file: &[u8], row: Row, t: u32) -> usize
+    requires { ⌜ (t < row .count) × (row .tiles + 4 * (row .count + 1) ≤ length (now file)) ⌝ }
+    ensures { λ r. ⌜ r ≡ windowEnd pointerSize (now (file .entry)) row t ⌝ }
+{
+    let next = t + 1;
+    if next < row.count {
+        return pointer_at(file, row, next);
+    }
+    file.len()
+}
+
+// The mark of tile t, whose pixels go to the start of the scratch.
+pub fn decode_one(
+    file: &[u8],
+    row: Row,
+    compression: u32,
+    t: u32,
+    frame: Frame,
+    scratch: &mut [u8],
+) -> u8
+    requires { ⌜ Ready (now file) row compression ⌝ }
+    requires { ⌜ (t < row .count) × (frame ≡ frameOf row t) × (length (now scratch) ≡ 16384) ⌝ }
+    ensures { λ r. ⌜ Scratched (tile pointerSize (now (file .entry)) row compression t) r (now (scratch .entry)) (now (scratch .exit)) ⌝ }
+{
+    let start = pointer_at(file, row, t);
+    let end = window_end(file, row, t);
+    let size = (frame.width * frame.height * row.depth) as usize;
+    let answer = decode_tile(
+        &file[start..end],
+        frame.width,
+        frame.height,
+        row.depth,
+        compression,
+        &mut scratch[..size],
+    );
+    answer.mark as u8
+}
