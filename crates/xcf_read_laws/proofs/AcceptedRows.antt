@@ -20,7 +20,8 @@ use Rattle.xcf_table.specs.declared.canvas.Canvas.{Canvas}
 use Rattle.xcf_parse.specs.declared.drawable.Layer.{Layer}
 use Rattle.xcf_parse.specs.declared.drawable.Owner.{Owner}
 use Rattle.xcf_parse.specs.Hierarchy.{pointerSize, agrees, pointer, rest, tiles, hierarchy}
-use Rattle.xcf_read.specs.Drawable.{channelRow, channelRows, maskOwner, maskRows, layerRow, layerRows, channelOwner, canvasChannelRows}
+use Rattle.xcf_row.specs.Row.{channelRow, maskOwner, layerRow, channelOwner}
+use Rattle.xcf_read.specs.Drawable.{channelRows, maskRows, layerRows, canvasChannelRows}
 use Rattle.xcf_read.specs.Image.{drawables, Image, image, structureByte}
 use Rattle.xcf_walk_laws.proofs.Ensures.{Ensures, ensures-done, ensures-weaken, ensures-bind, ensures-next, ensures-cond}
 use Rattle.xcf_read_laws.proofs.Ranges.{Side, Depth, ensures-layer, ensures-channel, ensures-head, ensures-pointers}

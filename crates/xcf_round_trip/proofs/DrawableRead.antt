@@ -18,7 +18,8 @@ use Rattle.xcf_table.specs.declared.canvas.Canvas.{Canvas}
 use Rattle.xcf_parse.specs.declared.drawable.Layer.{Layer}
 use Rattle.xcf_parse.specs.Hierarchy.{hierarchy}
 use Rattle.xcf_table.specs.Canvas.{depthOf}
-use Rattle.xcf_read.specs.Drawable.{flag, layerFlags, channelFlags, layerRow, channelRow, maskOwner, channelOwner, channelRows, maskRows, layerRows, canvasChannelRows}
+use Rattle.xcf_row.specs.Row.{flag, layerFlags, channelFlags, layerRow, channelRow, maskOwner, channelOwner}
+use Rattle.xcf_read.specs.Drawable.{channelRows, maskRows, layerRows, canvasChannelRows}
 use Rattle.xcf_usable.specs.Usable.{visible, apply, selection, active}
 use Rattle.xcf_usable.proofs.RowFacts.{LayerFacts, ChannelFacts, MaskFacts, CanvasFacts}
 use Rattle.xcf_structure.specs.Structure.{structureBytes}

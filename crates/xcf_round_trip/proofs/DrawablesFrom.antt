@@ -26,11 +26,11 @@ use Rattle.xcf_usable.proofs.Counts.{before-next}
 use Rattle.xcf_usable.proofs.Order.{first-not-mask, mask-behind, after-channel, few-layers, few-channels}
 use Rattle.xcf_drawable.specs.Drawable.{Drawable}
 use Rattle.xcf_write.specs.File.{placesOf}
-use Rattle.xcf_rows.specs.Rows.{usedFrom, pixelsSize, drawablesFrom, usedRows}
+use Rattle.xcf_body.specs.Rows.{usedFrom, pixelsSize, drawablesFrom, usedRows}
 use Rattle.xcf_grid.specs.Drawn.{pixelSize}
 use Rattle.xcf_image.specs.Parts.{kindPlaces}
 use Rattle.xcf_image.proofs.RowsLoop.{one-when}
-use Rattle.xcf_rows.proofs.Drawables.{rowDrawn, row-writable}
+use Rattle.xcf_body.proofs.Drawables.{rowDrawn, row-writable}
 use Rattle.xcf_write.proofs.RowsUsed.{used-most, used-kind, used-facts, ready}
 use Rattle.xcf_write.proofs.FileLaws.{places-count, rows-length}
 use Rattle.xcf_write.proofs.Accepted.{InputAccepted}

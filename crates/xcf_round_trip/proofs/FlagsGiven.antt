@@ -8,7 +8,7 @@ use native.Mathlib.Omega.{arith}
 use borrow.Author.Tests.{eq-eqb}
 use lib.Dec.{eqb}
 use Rattle.xcf_property.specs.declared.Properties.{Properties}
-use Rattle.xcf_read.specs.Drawable.{flag, layerFlags, channelFlags}
+use Rattle.xcf_row.specs.Row.{flag, layerFlags, channelFlags}
 
 -- a sum of flags is the sum of its bits
 layer-bits : (v a w g : Bool) → let n = cond v 0 1 + cond a 0 2 + cond w 0 8 + cond g 0 16 in

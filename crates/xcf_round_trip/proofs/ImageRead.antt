@@ -24,7 +24,7 @@ use Rattle.xcf_read.specs.Image.{canvasOf, image}
 use Rattle.xcf_store.specs.Word.{wordBytes, words}
 use Rattle.xcf_structure.specs.Structure.{propertyBytes, listBytes, imageProperties}
 use Rattle.xcf_drawable.specs.Drawable.{Drawable, drawableBytes}
-use Rattle.xcf_rows.specs.Rows.{drawablesBytes, usedRows}
+use Rattle.xcf_body.specs.Rows.{drawablesBytes, usedRows}
 use Rattle.xcf_write.specs.File.{placesOf, versionOf, imageSize, fileBytes}
 use Rattle.xcf_image.specs.Image.{imageBytes}
 use Rattle.xcf_write.specs.Answer.{fileOf}

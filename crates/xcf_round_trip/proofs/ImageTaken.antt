@@ -17,7 +17,8 @@ use Rattle.xcf_table.specs.declared.canvas.Canvas.{Canvas}
 use Rattle.xcf_parse.specs.declared.drawable.Layer.{Layer}
 use Rattle.xcf_parse.specs.Hierarchy.{pointerSize, hierarchy}
 use Rattle.xcf_table.specs.Canvas.{depthOf}
-use Rattle.xcf_read.specs.Drawable.{layerRow, maskOwner, channelOwner, channelRows, maskRows, layerRows, canvasChannelRows}
+use Rattle.xcf_row.specs.Row.{layerRow, maskOwner, channelOwner}
+use Rattle.xcf_read.specs.Drawable.{channelRows, maskRows, layerRows, canvasChannelRows}
 use Rattle.xcf_parse.specs.Image.{head}
 use Rattle.xcf_read.specs.Image.{drawables, Image, canvasOf, image}
 use Rattle.xcf_read_laws.proofs.Ranges.{ensures-pointers}

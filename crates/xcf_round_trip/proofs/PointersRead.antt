@@ -12,7 +12,7 @@ use lib.ListN.{length, length-append}
 use Rattle.xcf_read.specs.Image.{pointers}
 use Rattle.xcf_store.specs.Word.{wordBytes, words, when}
 use Rattle.xcf_drawable.specs.Drawable.{Drawable, drawableSize, drawableBytes}
-use Rattle.xcf_rows.specs.Rows.{drawablesBytes}
+use Rattle.xcf_body.specs.Rows.{drawablesBytes}
 use Rattle.xcf_write.specs.File.{placesOf}
 use Rattle.xcf_drawable.proofs.DrawableLength.{drawable-length}
 use Rattle.xcf_round_trip.proofs.Parts.{Stands, Rises}

@@ -25,7 +25,7 @@ use Rattle.xcf_usable.proofs.RowFacts.{Use, unused, layer, mask, channel, row-u
 use Rattle.xcf_usable.proofs.Order.{after-unused}
 use Rattle.xcf_drawable.specs.Drawable.{Drawable, drawableBytes}
 use Rattle.xcf_write.specs.File.{versionOf, imageSize}
-use Rattle.xcf_rows.specs.Rows.{usedRows}
+use Rattle.xcf_body.specs.Rows.{usedRows}
 use Rattle.xcf_write.specs.Answer.{fileOf}
 use Rattle.xcf_drawable.specs.Parts.{Writable}
 use Rattle.xcf_write.proofs.Accepted.{InputAccepted, accepted}

@@ -12,7 +12,7 @@ use Rattle.xcf_table.specs.declared.canvas.Canvas.{Canvas}
 use Rattle.xcf_parse.specs.declared.drawable.Fields.{Fields}
 use Rattle.xcf_parse.specs.declared.drawable.Layer.{Layer}
 use Rattle.xcf_parse.specs.declared.drawable.Owner.{Owner}
-use Rattle.xcf_read.specs.Drawable.{layerRow, channelRow, maskOwner, channelOwner}
+use Rattle.xcf_row.specs.Row.{layerRow, channelRow, maskOwner, channelOwner}
 use Rattle.xcf_usable.specs.Usable.{allZero}
 use Rattle.xcf_usable.proofs.RowFacts.{DrawableFacts, LayerFacts, ChannelFacts, MaskFacts, CanvasFacts}
 use Rattle.xcf_round_trip.specs.RoundTrip.{withPlaces}

@@ -15,7 +15,7 @@ use Rattle.xcf_table.specs.Table.{unusedRow, rowAt}
 use Rattle.xcf_table.specs.declared.canvas.Canvas.{Canvas}
 use Rattle.xcf_parse.specs.declared.drawable.Fields.{Fields}
 use Rattle.xcf_parse.specs.declared.drawable.Layer.{Layer}
-use Rattle.xcf_read.specs.Drawable.{layerRow, channelRow, maskOwner, channelOwner}
+use Rattle.xcf_row.specs.Row.{layerRow, channelRow, maskOwner, channelOwner}
 use Rattle.xcf_usable.specs.Usable.{tableRows, isLayer, isChannel, isUnused, before, rowBefore, seenAt, masked, usable}
 use Rattle.xcf_usable.proofs.Counts.{before-next}
 use Rattle.xcf_usable.proofs.RowFacts.{Use, unused, layer, mask, channel}

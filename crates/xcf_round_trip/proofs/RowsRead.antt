@@ -13,7 +13,7 @@ use Rattle.xcf_table.specs.declared.canvas.Canvas.{Canvas}
 use Rattle.xcf_read.specs.Drawable.{layerRows, canvasChannelRows}
 use Rattle.xcf_read.specs.Image.{drawables}
 use Rattle.xcf_drawable.specs.Drawable.{Drawable, drawableSize, drawableBytes}
-use Rattle.xcf_rows.specs.Rows.{drawablesBytes}
+use Rattle.xcf_body.specs.Rows.{drawablesBytes}
 use Rattle.xcf_write.specs.File.{placesOf}
 use Rattle.xcf_drawable.proofs.DrawableLength.{drawable-length}
 use Rattle.xcf_round_trip.proofs.Parts.{Stands, Gives, readRow, addAll}

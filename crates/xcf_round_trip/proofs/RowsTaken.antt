@@ -12,7 +12,7 @@ use Rattle.xcf_table.specs.Table.{rowSize, rowAt, Rows, addRow}
 use Rattle.xcf_table.specs.declared.canvas.Canvas.{Canvas}
 use Rattle.xcf_parse.specs.declared.drawable.Fields.{Fields}
 use Rattle.xcf_parse.specs.declared.drawable.Layer.{Layer}
-use Rattle.xcf_read.specs.Drawable.{layerRow, channelRow, maskOwner, channelOwner}
+use Rattle.xcf_row.specs.Row.{layerRow, channelRow, maskOwner, channelOwner}
 use Rattle.xcf_usable.specs.Usable.{tableRows, masked}
 use Rattle.xcf_round_trip.specs.Taken.{RowExcepted, RowsExcepted}
 use Rattle.xcf_round_trip.proofs.StructureGiven.{LayerGiven, ChannelGiven}

@@ -15,7 +15,7 @@ use Rattle.xcf_decode.specs.Answer.{decoding}
 use Rattle.xcf_usable.specs.Usable.{tableRows}
 use Rattle.xcf_write.specs.File.{versionOf}
 use Rattle.xcf_grid.specs.Drawn.{pixelSize}
-use Rattle.xcf_rows.specs.Rows.{pixelsSize, drawablesFrom, usedRows}
+use Rattle.xcf_body.specs.Rows.{pixelsSize, drawablesFrom, usedRows}
 use Rattle.xcf_write.specs.Answer.{writing}
 
 -- a row with other numbers in fields 5, 7 and 8

@@ -12,7 +12,7 @@ use Rattle.xcf_table.specs.Canvas.{sideOk}
 use Rattle.xcf_read.specs.Answer.{listed}
 use Rattle.xcf_usable.specs.Usable.{tableRows, badRow}
 use Rattle.xcf_write.specs.declared.WriteAnswer.{WriteAnswer}
-use Rattle.xcf_rows.specs.Rows.{pixelsSize, usedRows}
+use Rattle.xcf_body.specs.Rows.{pixelsSize, usedRows}
 use Rattle.xcf_write.specs.Answer.{answered, fileOf, rowsRefusal, inputRefusal, writeAnswer, writing, writerNumbers}
 
 abbrev Listed : WriteAnswer → Type 0

@@ -15,9 +15,9 @@ use Rattle.xcf_table.specs.declared.canvas.Canvas.{Canvas}
 use Rattle.xcf_table.specs.Table.{fileLimit}
 use Rattle.xcf_write.specs.declared.WriteAnswer.{WriteAnswer}
 use Rattle.xcf_write.specs.File.{imageSize, fileBytes}
-use Rattle.xcf_rows.specs.Rows.{drawablesFrom, usedRows}
+use Rattle.xcf_body.specs.Rows.{drawablesFrom, usedRows}
 use Rattle.xcf_write.specs.Answer.{answered, fileOf}
-use Rattle.xcf_rows.specs.Parts.{Ready, endOf}
+use Rattle.xcf_body.specs.Parts.{Ready, endOf}
 use Rattle.xcf_write.specs.Parts.{Fitted}
 use Rattle.xcf_write.proofs.FileLaws.{file-length}
 use Rattle.xcf_write.proofs.Accepted.{fitted, not-fitted}

@@ -17,15 +17,15 @@ use Rattle.xcf_store.proofs.Stores.{put-append}
 use Rattle.xcf_table.specs.declared.canvas.Canvas.{Canvas}
 use Rattle.xcf_store.specs.Word.{when}
 use Rattle.xcf_drawable.specs.Drawable.{Drawable, drawableSize}
-use Rattle.xcf_rows.specs.Rows.{drawablesBytes, drawablesFrom}
+use Rattle.xcf_body.specs.Rows.{drawablesBytes, drawablesFrom}
 use Rattle.xcf_write.specs.File.{placesOf, versionOf, imageSize, fileBytes}
 use Rattle.xcf_image.specs.Image.{imageBytes}
 use Rattle.xcf_grid.specs.Drawn.{pixelSize}
-use Rattle.xcf_rows.specs.Parts.{Ready, ends, endOf, Placed}
+use Rattle.xcf_body.specs.Parts.{Ready, ends, endOf, Placed}
 use Rattle.xcf_image.specs.Parts.{kindPlaces, LowPlaces, versionFrom}
 use Rattle.xcf_drawable.proofs.DrawableLength.{drawable-length}
 use Rattle.xcf_image.proofs.ImageLength.{kind-length, version-old-or-new, image-length}
-use Rattle.xcf_rows.proofs.Drawables.{rest, rowDrawn, PixelsFrom, drawables-step, drawables-over, drawables-all, pixels-from, pixels-next, end-most, placed-first, placed-next}
+use Rattle.xcf_body.proofs.Drawables.{rest, rowDrawn, PixelsFrom, drawables-step, drawables-over, drawables-all, pixels-from, pixels-next, end-most, placed-first, placed-next}
 
 module _ (table names : List ℕ) where
   -- the pointers, by the list of places

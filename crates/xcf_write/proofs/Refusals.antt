@@ -6,7 +6,7 @@ use mathlib.Core.List.{List}
 use borrow.Author.Tests.{eq-eqb, ne-eqb}
 use Rattle.xcf_table.specs.declared.canvas.Canvas.{Canvas}
 use Rattle.xcf_usable.specs.Usable.{tableRows, badRow}
-use Rattle.xcf_rows.specs.Rows.{pixelsSize, usedRows}
+use Rattle.xcf_body.specs.Rows.{pixelsSize, usedRows}
 use Rattle.xcf_write.specs.Answer.{answered, rowsRefusal}
 
 module _ (c : Canvas) (table : List ℕ) (names pixels : ℕ) {bad : ℕ} (e : bad ≡ badRow c names table) where

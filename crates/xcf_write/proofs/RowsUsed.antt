@@ -15,8 +15,8 @@ use Rattle.xcf_table.specs.declared.canvas.Canvas.{Canvas}
 use Rattle.xcf_usable.specs.Usable.{tableRows, isUnused, badRow}
 use Rattle.xcf_usable.proofs.AllUsable.{all-usable}
 use Rattle.xcf_usable.proofs.RowFacts.{DrawableFacts, drawable-facts}
-use Rattle.xcf_rows.specs.Rows.{usedFrom, pixelsSize, usedRows}
-use Rattle.xcf_rows.specs.Parts.{RowsInRange, Ready}
+use Rattle.xcf_body.specs.Rows.{usedFrom, pixelsSize, usedRows}
+use Rattle.xcf_body.specs.Parts.{RowsInRange, Ready}
 
 module _ (table : List ℕ) where
   most-from : (n j : ℕ) → usedFrom table n j ≤ n

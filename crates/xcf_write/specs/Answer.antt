@@ -11,7 +11,7 @@ use Rattle.xcf_table.specs.Canvas.{sideOk}
 use Rattle.xcf_usable.specs.Usable.{tableRows, badRow}
 use Rattle.xcf_write.specs.declared.WriteAnswer.{WriteAnswer}
 use Rattle.xcf_write.specs.File.{fileBytes}
-use Rattle.xcf_rows.specs.Rows.{pixelsSize, drawablesFrom, usedRows}
+use Rattle.xcf_body.specs.Rows.{pixelsSize, drawablesFrom, usedRows}
 
 -- a number, its place and a length
 abbrev pub answered : ℕ → ℕ → ℕ → WriteAnswer

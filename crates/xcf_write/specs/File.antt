@@ -7,7 +7,7 @@ use lib.Dec.{eqb}
 use Rattle.xcf_table.specs.declared.canvas.Canvas.{Canvas}
 use Rattle.xcf_store.specs.Word.{when}
 use Rattle.xcf_drawable.specs.Drawable.{Drawable, drawableSize}
-use Rattle.xcf_rows.specs.Rows.{drawablesBytes}
+use Rattle.xcf_body.specs.Rows.{drawablesBytes}
 use Rattle.xcf_image.specs.Image.{isNewMode, imageBytes}
 
 unfoldable pub placesOf : ℕ → List Drawable → ℕ → List ℕ

@@ -4,7 +4,8 @@ use mathlib.Core.Path.{_≡_}
 use native.Mathlib.Omega.{arith}
 use borrow.Author.Tests.{eq-eqb, ne-eqb}
 use borrow.Author.Needs.{needs}
-use Rattle.xcf_read.specs.Drawable.{channelOwner, canvasChannelRows}
+use Rattle.xcf_row.specs.Row.{channelOwner}
+use Rattle.xcf_read.specs.Drawable.{canvasChannelRows}
 use Rattle.xcf_read.specs.Parts.{drawable, rowsMost}
 use Rattle.xcf_read.proofs.drawable.drawable.Statement.{statement}
 use Rattle.xcf_read.proofs.drawable.drawable.Tie as tie

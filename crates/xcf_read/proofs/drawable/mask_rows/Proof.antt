@@ -4,7 +4,8 @@ use native.Mathlib.Omega.{arith}
 use borrow.Author.Tests.{eq-eqb, ne-eqb}
 use borrow.Author.Needs.{needs}
 use Rattle.xcf_walk.proofs.Resume.{then, ends, by-jump}
-use Rattle.xcf_read.specs.Drawable.{maskOwner, maskRows}
+use Rattle.xcf_row.specs.Row.{maskOwner}
+use Rattle.xcf_read.specs.Drawable.{maskRows}
 use Rattle.xcf_read.proofs.drawable.mask_rows.Statement.{statement}
 use Rattle.xcf_read.proofs.drawable.mask_rows.Tie as tie
 

@@ -2,8 +2,8 @@
 use native.Mathlib.Omega.{arith}
 use borrow.Author.Needs.{needs}
 use Rattle.xcf_store.proofs.Stores.{put-length}
-use Rattle.xcf_rows.specs.Rows.{drawablesFrom}
-use Rattle.xcf_rows.proofs.Drawables.{end-most}
+use Rattle.xcf_body.specs.Rows.{drawablesFrom}
+use Rattle.xcf_body.proofs.Drawables.{end-most}
 use Rattle.xcf_write.proofs.FileLaws.{low-places, image-there, file-put}
 use Rattle.xcf_write.proofs.file.put_file.Statement.{statement}
 use Rattle.xcf_write.proofs.file.put_file.Tie as tie

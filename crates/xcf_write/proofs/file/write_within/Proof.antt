@@ -4,7 +4,7 @@ use native.Mathlib.Omega.{arith}
 use borrow.Author.Needs.{needs}
 use lib.ListN.{length}
 use Rattle.xcf_write.specs.File.{imageSize}
-use Rattle.xcf_rows.specs.Rows.{drawablesFrom}
+use Rattle.xcf_body.specs.Rows.{drawablesFrom}
 use Rattle.xcf_write.proofs.FileLaws.{places-long, places-stored, start-is}
 use Rattle.xcf_write.proofs.FileFits.{fits-room, fits, fits-not}
 use Rattle.xcf_write.proofs.file.write_within.Statement.{statement}

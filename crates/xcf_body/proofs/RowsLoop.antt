@@ -1,0 +1,62 @@
+-- The loops over the rows of a table that count the used ones and their pixels: what is left from row k on, with what was found
+-- before it, gives the whole. Each step unfolds one row.
+-- Assumes nothing.
+use Prim.Native.Nat.{ℕ, suc, _+_, _-_, _*_, _≤_, _<_}
+use mathlib.Core.Path.{_≡_}
+use mathlib.Core.List.{List}
+use mathlib.Core.Bool.{cond}
+use native.Mathlib.Nat.{sub-zero, zero-add}
+use native.Mathlib.Omega.{arith}
+use borrow.Author.Tests.{eq-eqb, ne-eqb}
+use lib.Dec.{eqb}
+use Rattle.xcf_table.specs.declared.Row.{Row}
+use Rattle.xcf_table.specs.Table.{rowAt}
+use Rattle.xcf_usable.specs.Usable.{tableRows}
+use Rattle.xcf_body.specs.Rows.{usedFrom, pixelsSize, usedRows}
+use Rattle.xcf_grid.specs.Drawn.{pixelSize}
+use Rattle.xcf_laws.proofs.Steps.{more-rows, no-rows}
+
+-- the rows before row k are used
+pub record UsedLeft (table : List ℕ) (k : ℕ) : Type 0 where
+  pub few : k ≤ tableRows
+  pub rest : k + usedFrom table (tableRows - k) k ≡ usedRows table
+
+pub used-first : (table : List ℕ) → UsedLeft table 0
+used-first table = record { few = omega arith; rest = omega arith }
+
+module _ {table : List ℕ} {k : ℕ} {r : Row} (g : UsedLeft table k) (h : k < tableRows) (e : r ≡ rowAt table k) where
+  used-step : k + cond (eqb (r .kind) 0) 0 (suc (usedFrom table (tableRows - (k + 1)) (k + 1))) ≡ usedRows table
+  unfolding usedFrom
+  used-step = rw e (rw (more-rows tableRows k h) at (g .rest))
+
+  pub used-next : (r .kind ≡ 0 → ⊥) → UsedLeft table (k + 1)
+  used-next used = record { few = omega arith; rest = omega (arith, rw (ne-eqb (r .kind) 0 used) at used-step) }
+
+  pub used-end : r .kind ≡ 0 → k ≡ usedRows table
+  used-end unused = omega (arith, rw (eq-eqb (r .kind) 0 unused) at used-step)
+
+pub used-all : {table : List ℕ} {k : ℕ} → UsedLeft table k → tableRows ≤ k → k ≡ usedRows table
+unfolding usedFrom
+used-all {k} g h = omega (arith, rw (no-rows tableRows k h) at (g .rest))
+
+-- the pixels of the rows before row k
+pub record PixelsLeft (table : List ℕ) (n k size : ℕ) : Type 0 where
+  pub few : k ≤ n
+  pub most : size ≤ 1073741824 * k
+  pub rest : size + pixelsSize table (n - k) k ≡ pixelsSize table n 0
+
+pub pixels-first : (table : List ℕ) (n : ℕ) → PixelsLeft table n 0 0
+pixels-first table n = record { few = omega arith; most = omega arith; rest = rw (sub-zero, zero-add) }
+
+pub pixels-next : {table : List ℕ} {n k size r : ℕ} → PixelsLeft table n k size → k < n → r ≡ pixelSize (rowAt table k) → r ≤ 1073741824
+    → PixelsLeft table n (k + 1) (size + r)
+unfolding pixelsSize
+pixels-next {n} {k} g h e l = record {
+  few = omega arith;
+  most = omega (arith, g .most);
+  rest = omega (arith, rw (more-rows n k h) at (g .rest), e);
+}
+
+pub pixels-over : {table : List ℕ} {n k size : ℕ} → PixelsLeft table n k size → n ≤ k → size ≡ pixelsSize table n 0
+unfolding pixelsSize
+pixels-over {n} {k} g h = omega (arith, rw (no-rows n k h) at (g .rest))

@@ -1,0 +1,51 @@
+-- `layer_row` meets its contract: field by field; places fit in 32 bits as required, the count since tiles are few.
+use native.Mathlib.Omega.{arith}
+use borrow.Author.Needs.{needs}
+use Rattle.xcf_row.specs.Row.{layerRow}
+use Rattle.xcf_grid.proofs.FewTiles.{few-tiles}
+use Rattle.xcf_row.proofs.layer_row.Statement.{statement}
+use Rattle.xcf_row.proofs.layer_row.Tie as tie
+
+depth-of-requires : tie.Need-depth-of-requires
+depth-of-requires c κs = search needs
+
+cast-t7 : tie.Need-cast-t7
+cast-t7 c = search needs
+
+cast-t8 : tie.Need-cast-t8
+cast-t8 c = search needs
+
+cast-t9 : tie.Need-cast-t9
+cast-t9 c = search needs
+
+cast-t10 : tie.Need-cast-t10
+cast-t10 c = search needs
+
+tile-count-requires : tie.Need-tile-count-requires
+tile-count-requires c κs = search needs
+
+cast-t12 : tie.Need-cast-t12
+cast-t12 c =
+    let low = c .before .before .before .before .before .before .before .pre .1 in
+    omega (arith, c .tile-count .ensures, few-tiles _ _ (low .width) (low .height))
+
+layer-flags-requires : tie.Need-layer-flags-requires
+layer-flags-requires c κs = search needs
+
+returns : tie.Need-returns
+unfolding layerRow
+returns c = rw (c .before .before .before .before .before .depth-of .ensures, c .before .tile-count .ensures, c .layer-flags .ensures)
+
+pub layer-row-spec : {M : Type 1} → statement M
+layer-row-spec =
+    tie.close
+    (tie.spec
+    depth-of-requires
+    cast-t7
+    cast-t8
+    cast-t9
+    cast-t10
+    tile-count-requires
+    cast-t12
+    layer-flags-requires
+    returns)

@@ -1,0 +1,72 @@
+-- The row of a layer, a mask or a channel, from what its structure says.
+use Prim.Native.Nat.{ℕ, _+_}
+use mathlib.Core.Bool.{cond}
+use lib.Dec.{eqb}
+use Rattle.xcf_walk.specs.Property.{properties}
+use Rattle.xcf_property.specs.declared.Properties.{Properties}
+use Rattle.xcf_table.specs.declared.Row.{Row}
+use Rattle.xcf_grid.specs.Grid.{tileCount}
+use Rattle.xcf_table.specs.declared.canvas.Canvas.{Canvas}
+use Rattle.xcf_parse.specs.declared.drawable.Fields.{Fields}
+use Rattle.xcf_parse.specs.declared.drawable.Layer.{Layer}
+use Rattle.xcf_parse.specs.declared.drawable.Owner.{Owner}
+use Rattle.xcf_table.specs.Canvas.{depthOf}
+use Rattle.xcf_parse.specs.Drawable.{fields}
+
+-- 1 visible, 2 apply mask, 4 selection, 8 active, 16 group
+unfoldable pub flag : ℕ → ℕ → ℕ
+flag v bit = cond (eqb v 0) 0 bit
+
+-- 2 and 29 matter in layers, 3 and 4 in channels and masks; apply mask is always 0 without a mask
+unfoldable pub layerFlags : Properties → ℕ → ℕ
+layerFlags p mask = flag (p .visible) 1 + flag (cond (eqb mask 0) 0 (p .apply)) 2 + flag (p .active) 8 + flag (p .group) 16
+
+unfoldable pub channelFlags : Properties → ℕ
+channelFlags p = flag (p .visible) 1 + flag (p .selection) 4 + flag (p .active) 8
+
+unfoldable pub layerRow : Layer → ℕ → ℕ → Row
+layerRow x tiles k = record {
+  kind = 1;
+  width = x .width;
+  height = x .height;
+  depth = depthOf (x .form);
+  form = x .form;
+  name = x .fields .name .place;
+  size = x .fields .name .length;
+  list = x .fields .list;
+  tiles = tiles;
+  count = tileCount (x .width) (x .height);
+  opacity = x .fields .properties .opacity;
+  flags = layerFlags (x .fields .properties) (x .mask);
+  dx = x .fields .properties .dx;
+  dy = x .fields .properties .dy;
+  mode = x .fields .properties .mode;
+  owner = k;
+}
+
+unfoldable pub channelRow : Owner → Fields → ℕ → Row
+channelRow o x tiles = record {
+  kind = o .kind;
+  width = o .width;
+  height = o .height;
+  depth = 1;
+  form = 2;
+  name = x .name .place;
+  size = x .name .length;
+  list = x .list;
+  tiles = tiles;
+  count = tileCount (o .width) (o .height);
+  opacity = x .properties .opacity;
+  flags = channelFlags (x .properties);
+  dx = o .dx;
+  dy = o .dy;
+  mode = 0;
+  owner = o .row;
+}
+
+-- a mask's row takes its layer's sides and offsets; a channel has the canvas's sides and is its own owner
+unfoldable pub maskOwner : Layer → ℕ → Owner
+maskOwner x k = record { kind = 2; width = x .width; height = x .height; dx = x .fields .properties .dx; dy = x .fields .properties .dy; row = k }
+
+unfoldable pub channelOwner : Canvas → ℕ → Owner
+channelOwner c k = record { kind = 3; width = c .width; height = c .height; dx = 0; dy = 0; row = k }

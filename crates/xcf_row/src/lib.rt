@@ -1,0 +1,114 @@
+// The row of a layer, a mask or a channel, from what its structure says.
+ghost use mathlib.Core.Path.{_≡_};
+ghost use Prim.Native.Nat.{_+_, _≤_};
+ghost use lib.ListN.{length};
+ghost use Rattle.xcf_table.specs.Table.{fileLimit};
+ghost use Rattle.xcf_parse.specs.Drawable.{fields};
+ghost use Rattle.xcf_row.specs.Row.{flag, layerFlags, channelFlags, layerRow, channelRow, maskOwner, channelOwner};
+ghost use Rattle.xcf_parse.specs.Parts.{FieldsLow, LayerLow};
+use xcf_grid::tile_count;
+use xcf_parse::drawable::Fields;
+use xcf_parse::drawable::Layer;
+use xcf_parse::drawable::Owner;
+use xcf_property::Properties;
+use xcf_table::Row;
+use xcf_table::canvas::Canvas;
+use xcf_table::canvas::depth_of;
+
+fn flag(v: u32, bit: u32) -> u32
+    ensures { λ r. ⌜ (r ≡ flag v bit) × (r ≤ bit) ⌝ }
+{
+    if v == 0 { 0 } else { bit }
+}
+
+fn layer_flags(p: Properties, mask: u32) -> u32
+    ensures { λ r. ⌜ r ≡ layerFlags p mask ⌝ }
+{
+    let apply = if mask == 0 { 0 } else { p.apply };
+    flag(p.visible, 1) + flag(apply, 2) + flag(p.active, 8) + flag(p.group, 16)
+}
+
+fn channel_flags(p: Properties) -> u32
+    ensures { λ r. ⌜ r ≡ channelFlags p ⌝ }
+{
+    flag(p.visible, 1) + flag(p.selection, 4) + flag(p.active, 8)
+}
+
+pub fn layer_row(x: Layer, tiles: usize, k: u32) -> Row
+    requires { ⌜ (tiles ≤ fileLimit) × LayerLow x fileLimit ⌝ }
+    ensures { λ r. ⌜ r ≡ layerRow x tiles k ⌝ }
+{
+    let own = x.fields;
+    let p = own.properties;
+    Row {
+        kind: 1,
+        width: x.width,
+        height: x.height,
+        depth: depth_of(x.form),
+        form: x.form,
+        name: own.name.place as u32,
+        size: own.name.length as u32,
+        list: own.list as u32,
+        tiles: tiles as u32,
+        count: tile_count(x.width, x.height) as u32,
+        opacity: p.opacity,
+        flags: layer_flags(p, x.mask),
+        dx: p.dx,
+        dy: p.dy,
+        mode: p.mode,
+        owner: k,
+    }
+}
+
+pub fn channel_row(o: Owner, x: Fields, tiles: usize) -> Row
+    requires { ⌜ (tiles ≤ fileLimit) × (o .width ≤ 16384) × (o .height ≤ 16384) × FieldsLow x fileLimit ⌝ }
+    ensures { λ r. ⌜ r ≡ channelRow o x tiles ⌝ }
+{
+    let p = x.properties;
+    Row {
+        kind: o.kind,
+        width: o.width,
+        height: o.height,
+        depth: 1,
+        form: 2,
+        name: x.name.place as u32,
+        size: x.name.length as u32,
+        list: x.list as u32,
+        tiles: tiles as u32,
+        count: tile_count(o.width, o.height) as u32,
+        opacity: p.opacity,
+        flags: channel_flags(p),
+        dx: o.dx,
+        dy: o.dy,
+        mode: 0,
+        owner: o.row,
+    }
+}
+
+pub fn mask_owner(x: Layer, k: u32) -> Owner
+    ensures { λ r. ⌜ r ≡ maskOwner x k ⌝ }
+{
+    let own = x.fields;
+    let p = own.properties;
+    Owner {
+        kind: 2,
+        width: x.width,
+        height: x.height,
+        dx: p.dx,
+        dy: p.dy,
+        row: k,
+    }
+}
+
+pub fn channel_owner(c: Canvas, k: u32) -> Owner
+    ensures { λ r. ⌜ r ≡ channelOwner c k ⌝ }
+{
+    Owner {
+        kind: 3,
+        width: c.width,
+        height: c.height,
+        dx: 0,
+        dy: 0,
+        row: k,
+    }
+}
