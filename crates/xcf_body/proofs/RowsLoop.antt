@@ -14,7 +14,7 @@ use Rattle.xcf_table.specs.Table.{rowAt}
 use Rattle.xcf_usable.specs.Usable.{tableRows}
 use Rattle.xcf_body.specs.Rows.{usedFrom, pixelsSize, usedRows}
 use Rattle.xcf_grid.specs.Drawn.{pixelSize}
-use Rattle.xcf_laws.proofs.Steps.{more-rows, no-rows}
+use Rattle.xcf_laws.proofs.Steps.{rest-begins, rest-empty}
 
 -- the rows before row k are used
 pub record UsedLeft (table : List ℕ) (k : ℕ) : Type 0 where
@@ -27,7 +27,7 @@ used-first table = record { few = omega arith; rest = omega arith }
 module _ {table : List ℕ} {k : ℕ} {r : Row} (g : UsedLeft table k) (h : k < tableRows) (e : r ≡ rowAt table k) where
   used-step : k + cond (eqb (r .kind) 0) 0 (suc (usedFrom table (tableRows - (k + 1)) (k + 1))) ≡ usedRows table
   unfolding usedFrom
-  used-step = rw e (rw (more-rows tableRows k h) at (g .rest))
+  used-step = rw e (rw (rest-begins tableRows k h) at (g .rest))
 
   pub used-next : (r .kind ≡ 0 → ⊥) → UsedLeft table (k + 1)
   used-next used = record { few = omega arith; rest = omega (arith, rw (ne-eqb (r .kind) 0 used) at used-step) }
@@ -37,7 +37,7 @@ module _ {table : List ℕ} {k : ℕ} {r : Row} (g : UsedLeft table k) (h : k < 
 
 pub used-all : {table : List ℕ} {k : ℕ} → UsedLeft table k → tableRows ≤ k → k ≡ usedRows table
 unfolding usedFrom
-used-all {k} g h = omega (arith, rw (no-rows tableRows k h) at (g .rest))
+used-all {k} g h = omega (arith, rw (rest-empty tableRows k h) at (g .rest))
 
 -- the pixels of the rows before row k
 pub record PixelsLeft (table : List ℕ) (n k size : ℕ) : Type 0 where
@@ -54,9 +54,9 @@ unfolding pixelsSize
 pixels-next {n} {k} g h e l = record {
   few = omega arith;
   most = omega (arith, g .most);
-  rest = omega (arith, rw (more-rows n k h) at (g .rest), e);
+  rest = omega (arith, rw (rest-begins n k h) at (g .rest), e);
 }
 
 pub pixels-over : {table : List ℕ} {n k size : ℕ} → PixelsLeft table n k size → n ≤ k → size ≡ pixelsSize table n 0
 unfolding pixelsSize
-pixels-over {n} {k} g h = omega (arith, rw (no-rows n k h) at (g .rest))
+pixels-over {n} {k} g h = omega (arith, rw (rest-empty n k h) at (g .rest))

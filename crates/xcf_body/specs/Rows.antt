@@ -9,7 +9,7 @@ use Rattle.xcf_usable.specs.Usable.{isUnused, masked, tableRows}
 use Rattle.xcf_drawable.specs.Drawable.{Drawable, drawableSize, drawableBytes}
 use Rattle.xcf_grid.specs.Drawn.{pixelSize}
 
--- drawables one behind the other, the first at p, and the places of those of a kind
+-- drawables one behind the other, the first at p
 unfoldable pub drawablesBytes : List Drawable → ℕ → List ℕ
 drawablesBytes [] p = []
 drawablesBytes (d ∷ ds) p = drawableBytes d p ++ drawablesBytes ds (p + drawableSize d)
@@ -19,6 +19,11 @@ unfoldable pub usedFrom : List ℕ → ℕ → ℕ → ℕ
 usedFrom table zero k = 0
 usedFrom table (suc n) k = cond (isUnused (rowAt table k)) 0 (suc (usedFrom table n (k + 1)))
 
+-- the rows that are used
+abbrev pub usedRows : List ℕ → ℕ
+usedRows table = usedFrom table tableRows 0
+
+-- how many bytes of pixels n rows have, from row k on
 unfoldable pub pixelsSize : List ℕ → ℕ → ℕ → ℕ
 pixelsSize table zero k = 0
 pixelsSize table (suc n) k = pixelSize (rowAt table k) + pixelsSize table n (k + 1)
@@ -34,7 +39,3 @@ drawablesFrom table zero k names pixels = []
 drawablesFrom table (suc n) k names pixels =
     let size = pixelSize (rowAt table k) in
     rowDrawable table names k (take size pixels) ∷ drawablesFrom table n (k + 1) names (drop size pixels)
-
--- the rows that are used, and the file that they are written as
-abbrev pub usedRows : List ℕ → ℕ
-usedRows table = usedFrom table tableRows 0

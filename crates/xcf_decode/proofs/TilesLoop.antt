@@ -23,7 +23,7 @@ use Rattle.xcf_window.specs.Parts.{Ready, Scratched}
 use Rattle.xcf_grid.specs.Parts.{Placeable, frameOf, putFrame}
 use Rattle.xcf_grid.proofs.Tabulated.{tabulate-more}
 use Rattle.xcf_grid.proofs.PutTile.{tile-framed}
-use Rattle.xcf_window.proofs.OneTile.{pixels-small}
+use Rattle.xcf_window.proofs.OneTile.{pixels-small, scratch-pixels}
 use Rattle.xcf_decode.proofs.Marked.{nonzero-next-good, nonzero-next-bad, nonzero-below}
 use Rattle.xcf_grid.proofs.Shown.{Shown, shown-none, shown-next, shown-all}
 
@@ -105,7 +105,7 @@ module _ {f : List ℕ} {r : Row} {compression : ℕ} (ready : Ready f r compres
         → Going f r compression (putFrame pixels (r .width) (r .depth) (frameOf r t) new) (set marks t m) new (t + 1) count
     going-next less {m} {new} one next = record {
       counting = next;
-      shown = shown-next new (g .shown) (ready .usable .wide .0) (omega (arith, less, ready .usable .count)) (pixels-of-length f r compression t) (one .pixels);
+      shown = shown-next new (g .shown) (ready .usable .wide .0) (omega (arith, less, ready .usable .count)) (pixels-of-length f r compression t) (scratch-pixels one);
       marksSize = length-set marks t m ∙ g .marksSize;
       marksSet =
           rw (add-one, tabulate-more t 0 (markOf f r compression), zero-add, take-suc-set marks t m (omega (arith, less, g .marksSize)), g .marksSet, one .mark);

@@ -6,7 +6,7 @@ use lib.ListN.{length}
 use Rattle.xcf_table.specs.declared.Row.{Row}
 use Rattle.xcf_grid.specs.Grid.{tileCount}
 
--- how many bytes of pixels a row has, and n rows from row k on
+-- how many bytes of pixels a row has
 abbrev pub pixelSize : Row → ℕ
 pixelSize r = r .width * r .height * r .depth
 

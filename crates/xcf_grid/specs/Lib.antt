@@ -1,4 +1,4 @@
+pub mod Grid
 pub mod Pixels
 pub mod Parts
-pub mod Grid
 pub mod Drawn

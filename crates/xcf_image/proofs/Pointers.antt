@@ -14,7 +14,7 @@ use Rattle.xcf_store.specs.Put.{Put}
 use Rattle.xcf_store.proofs.Stores.{put-append, put-length}
 use Rattle.xcf_store.specs.Word.{wordBytes, words, when}
 use Rattle.xcf_image.specs.Parts.{kindPlaces}
-use Rattle.xcf_laws.proofs.Steps.{more-rows, no-rows}
+use Rattle.xcf_laws.proofs.Steps.{rest-begins, rest-empty}
 use Rattle.xcf_store.proofs.Words.{words-append, words-length, put-none}
 use Rattle.xcf_image.proofs.ImageLength.{pointers-length}
 
@@ -38,7 +38,7 @@ module _ {start : List ℕ} {to : ℕ} {table : List ℕ} {n kind : ℕ} {places
     pointers-step : g .done ++ (rowPlace kind r (getD places k 0) ++ kindPlaces kind table (n - (k + 1)) (k + 1) places)
         ≡ kindPlaces kind table n 0 places
     unfolding kindPlaces
-    pointers-step = rw e (rw (more-rows n k h) at (g .rest))
+    pointers-step = rw e (rw (rest-begins n k h) at (g .rest))
 
     pub pointers-room : to + length (words (kindPlaces kind table n 0 places ++ (0 ∷ []))) ≤ length start
         → next + length (words (rowPlace kind r (getD places k 0))) ≤ length output
@@ -65,7 +65,7 @@ module _ {start : List ℕ} {to : ℕ} {table : List ℕ} {n kind : ℕ} {places
   module _ (h : n ≤ k) where
     all-done : g .done ≡ kindPlaces kind table n 0 places
     unfolding kindPlaces
-    all-done = rw (no-rows n k h, append-nil) at (g .rest)
+    all-done = rw (rest-empty n k h, append-nil) at (g .rest)
 
     pub pointers-end-room : to + length (words (kindPlaces kind table n 0 places ++ (0 ∷ []))) ≤ length start
         → next + 4 ≤ length output

@@ -15,7 +15,7 @@ use Rattle.xcf_table.specs.Table.{rowAt}
 use Rattle.xcf_store.specs.Word.{when}
 use Rattle.xcf_image.specs.Image.{isNewMode}
 use Rattle.xcf_image.specs.Parts.{kindPlaces, versionFrom}
-use Rattle.xcf_laws.proofs.Steps.{more-rows, no-rows}
+use Rattle.xcf_laws.proofs.Steps.{rest-begins, rest-empty}
 
 -- how many of the rows before row k are of a kind
 pub record KindLeft (table : List ℕ) (n kind k count : ℕ) : Type 0 where
@@ -34,7 +34,7 @@ module _ {table : List ℕ} {n kind k count : ℕ} {r : Row} (g : KindLeft table
   kind-step : count + (cond (eqb (r .kind) kind) 1 0 + length (kindPlaces kind table (n - (k + 1)) (k + 1) []))
       ≡ length (kindPlaces kind table n 0 [])
   unfolding kindPlaces
-  kind-step = rw e (rw (more-rows n k h, length-append, one-when) at (g .rest))
+  kind-step = rw e (rw (rest-begins n k h, length-append, one-when) at (g .rest))
 
   pub kind-next : r .kind ≡ kind → KindLeft table n kind (k + 1) (count + 1)
   kind-next is = record {
@@ -53,7 +53,7 @@ module _ {table : List ℕ} {n kind k count : ℕ} {r : Row} (g : KindLeft table
 pub kind-over : {table : List ℕ} {n kind k count : ℕ} → KindLeft table n kind k count → n ≤ k
     → count ≡ length (kindPlaces kind table n 0 [])
 unfolding kindPlaces
-kind-over {n} {k} g h = omega (arith, rw (no-rows n k h) at (g .rest))
+kind-over {n} {k} g h = omega (arith, rw (rest-empty n k h) at (g .rest))
 
 -- no mode before row k is new
 pub record VersionLeft (table : List ℕ) (n k : ℕ) : Type 0 where
@@ -66,7 +66,7 @@ version-first table n = record { few = omega arith; rest = rw sub-zero }
 module _ {table : List ℕ} {n k : ℕ} {r : Row} (g : VersionLeft table n k) (h : k < n) (e : r ≡ rowAt table k) where
   version-step : cond (isNewMode r) 2 (versionFrom table (n - (k + 1)) (k + 1)) ≡ versionFrom table n 0
   unfolding versionFrom
-  version-step = rw e (rw (more-rows n k h) at (g .rest))
+  version-step = rw e (rw (rest-begins n k h) at (g .rest))
 
   pub version-next : r .mode < 19 → VersionLeft table n (k + 1)
   version-next old = record { few = omega arith; rest = rw (lt-leb 19 (r .mode) old) at version-step }
@@ -76,4 +76,4 @@ module _ {table : List ℕ} {n k : ℕ} {r : Row} (g : VersionLeft table n k) (h
 
 pub version-over : {table : List ℕ} {n k : ℕ} → VersionLeft table n k → n ≤ k → 0 ≡ versionFrom table n 0
 unfolding versionFrom
-version-over {n} {k} g h = rw (no-rows n k h) at (g .rest)
+version-over {n} {k} g h = rw (rest-empty n k h) at (g .rest)

@@ -10,7 +10,7 @@ use Rattle.xcf_parse.specs.Header.{magic, tags}
 use Rattle.xcf_store.specs.Word.{words}
 use Rattle.xcf_structure.specs.Structure.{listBytes, imageProperties}
 
--- the version: 2 if a mode is 19, 20 or 21, else 0
+-- a mode that only version 2 has: 19, 20 or 21
 abbrev pub isNewMode : Row → Bool
 isNewMode r = leb 19 (r .mode)
 

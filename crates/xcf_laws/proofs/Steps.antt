@@ -14,9 +14,9 @@ pub one-less : (a n : ℕ) → 0 < a → a * n ≡ (a - 1) * n + n
 one-less zero n h = absurd (omega arith)
 one-less (suc a) n h = rw (sub-one, suc-mul)
 
--- of n rows, those from row k on begin with row k
-pub more-rows : (n k : ℕ) → k < n → n - k ≡ suc (n - (k + 1))
-more-rows n k h = omega arith
+-- of n things, those from thing k on begin with thing k; from the last on there is none
+pub rest-begins : (n k : ℕ) → k < n → n - k ≡ suc (n - (k + 1))
+rest-begins n k h = omega arith
 
-pub no-rows : (n k : ℕ) → n ≤ k → n - k ≡ 0
-no-rows n k h = omega arith
+pub rest-empty : (n k : ℕ) → n ≤ k → n - k ≡ 0
+rest-empty n k h = omega arith

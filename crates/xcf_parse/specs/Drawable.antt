@@ -8,7 +8,7 @@ use Rattle.xcf_walk.specs.Property.{properties}
 use Rattle.xcf_parse.specs.declared.drawable.Fields.{Fields}
 use Rattle.xcf_parse.specs.declared.drawable.Layer.{Layer}
 use Rattle.xcf_parse.specs.declared.drawable.Owner.{Owner}
-use Rattle.xcf_parse.specs.Hierarchy.{pointer, hierarchy}
+use Rattle.xcf_parse.specs.Hierarchy.{pointer}
 use Rattle.xcf_table.specs.Canvas.{sideOk, typeOk}
 
 unfoldable pub side : Walk ℕ

@@ -3,16 +3,27 @@ use Prim.Native.Nat.{ℕ, _-_, _≤_, _<_}
 use mathlib.Core.Path.{_≡_}
 use mathlib.Core.List.{List}
 use mathlib.Core.Bool.{false}
-use lib.ListN.{length}
 use Rattle.xcf_walk.specs.declared.cursor.Cursor.{Cursor}
 use Rattle.xcf_store.specs.Rising.{rises}
-use Rattle.xcf_walk.specs.Cursor.{Leads}
+use Rattle.xcf_walk.specs.Cursor.{Leads, noName}
+use Rattle.xcf_property.specs.Property.{noProperties}
 use Rattle.xcf_parse.specs.declared.drawable.Fields.{Fields}
 use Rattle.xcf_parse.specs.declared.drawable.Layer.{Layer}
+use Rattle.xcf_parse.specs.declared.image.Head.{Head}
 use Rattle.xcf_parse.specs.Hierarchy.{pointerSize, tiles}
 
 abbrev pub fileStart : Cursor
 fileStart = record { at = 0; number = 0 }
+
+-- the values beside a refusal
+abbrev pub noFields : Fields
+noFields = record { name = noName; list = 0; properties = noProperties; hierarchy = 0 }
+
+abbrev pub noLayer : Layer
+noLayer = record { width = 0; height = 0; form = 0; fields = noFields; mask = 0 }
+
+abbrev pub noHead : Head
+noHead = record { version = 0; width = 0; height = 0; base = 0; compression = 0 }
 
 -- the places of a drawable's fields are at most n, beside a refusal too
 pub record FieldsLow (x : Fields) (n : ℕ) : Type 0 where

@@ -1,11 +1,11 @@
 // The structure of a layer, a mask or a channel.
+ghost use mathlib.Core.Path.{_≡_};
 ghost use Prim.Native.Nat.{_≤_};
 ghost use lib.ListN.{length};
-ghost use Rattle.xcf_walk.specs.Cursor.{Leads};
+ghost use Rattle.xcf_walk.specs.Cursor.{Leads, Reads};
 ghost use Rattle.xcf_parse.specs.Hierarchy.{pointerSize};
 ghost use Rattle.xcf_parse.specs.Drawable.{side, sideLike, layerType, fields, layer, channel};
-ghost use Rattle.xcf_parse.specs.Parts.{FieldsLow, LayerLow};
-use crate::hierarchy::hierarchy;
+ghost use Rattle.xcf_parse.specs.Parts.{noFields, noLayer, FieldsLow, LayerLow};
 use crate::hierarchy::pointer;
 use xcf_property::Properties;
 use xcf_table::canvas::side_ok;
@@ -88,8 +88,26 @@ fn layer_type(cursor: Cursor, file: &[u8], base: u32) -> WordRead
     }
 }
 
+impl Fields {
+    // Beside a refusal.
+    fn none() -> Fields
+        ensures { λ r. ⌜ r ≡ noFields ⌝ }
+    {
+        let properties = Properties::none();
+        Fields {
+            name: Name {
+                place: 0,
+                length: 0,
+            },
+            list: 0,
+            properties,
+            hierarchy: 0,
+        }
+    }
+}
+
 fn read_fields(cursor: Cursor, file: &[u8], kind: u32) -> FieldsRead
-    ensures { λ r. ⌜ Leads cursor (fields pointerSize kind) (now (file .entry)) (r .cursor) (r .fields) ⌝ }
+    ensures { λ r. ⌜ Reads cursor (fields pointerSize kind) (now (file .entry)) noFields (r .cursor) (r .fields) ⌝ }
     ensures { λ r. ⌜ FieldsLow (r .fields) (length (now (file .entry))) ⌝ }
 {
     let name = cursor.string(file);
@@ -97,6 +115,13 @@ fn read_fields(cursor: Cursor, file: &[u8], kind: u32) -> FieldsRead
     let p = name.cursor.properties(file, kind, 0);
     let h = pointer(p.cursor, file);
     let next = h.cursor;
+    if next.number != 0 {
+        let none = Fields::none();
+        return FieldsRead {
+            fields: none,
+            cursor: next,
+        };
+    }
     let named = name.name;
     let properties = p.properties;
     FieldsRead {
@@ -111,7 +136,7 @@ fn read_fields(cursor: Cursor, file: &[u8], kind: u32) -> FieldsRead
 }
 
 pub fn read_layer(cursor: Cursor, file: &[u8], base: u32) -> LayerRead
-    ensures { λ r. ⌜ Leads cursor (layer pointerSize base) (now (file .entry)) (r .cursor) (r .layer) ⌝ }
+    ensures { λ r. ⌜ Reads cursor (layer pointerSize base) (now (file .entry)) noLayer (r .cursor) (r .layer) ⌝ }
     ensures { λ r. ⌜ LayerLow (r .layer) (length (now (file .entry))) ⌝ }
 {
     let width = side(cursor, file);
@@ -120,6 +145,19 @@ pub fn read_layer(cursor: Cursor, file: &[u8], base: u32) -> LayerRead
     let x = read_fields(form.cursor, file, 1);
     let mask = x.cursor.word(file);
     let next = mask.cursor;
+    if next.number != 0 {
+        let none = Fields::none();
+        return LayerRead {
+            layer: Layer {
+                width: 0,
+                height: 0,
+                form: 0,
+                fields: none,
+                mask: 0,
+            },
+            cursor: next,
+        };
+    }
     let own = x.fields;
     LayerRead {
         layer: Layer {
@@ -134,7 +172,7 @@ pub fn read_layer(cursor: Cursor, file: &[u8], base: u32) -> LayerRead
 }
 
 pub fn read_channel(cursor: Cursor, file: &[u8], o: Owner) -> FieldsRead
-    ensures { λ r. ⌜ Leads cursor (channel pointerSize o) (now (file .entry)) (r .cursor) (r .fields) ⌝ }
+    ensures { λ r. ⌜ Reads cursor (channel pointerSize o) (now (file .entry)) noFields (r .cursor) (r .fields) ⌝ }
     ensures { λ r. ⌜ FieldsLow (r .fields) (length (now (file .entry))) ⌝ }
 {
     let first = side_like(cursor, file, o.width);

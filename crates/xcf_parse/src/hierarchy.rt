@@ -4,7 +4,7 @@ ghost use Prim.Native.Nat.{_≤_};
 ghost use mathlib.Core.Bool.{_&&_};
 ghost use lib.ListN.{length};
 ghost use lib.Dec.{eqb};
-ghost use Rattle.xcf_walk.specs.Cursor.{Leads};
+ghost use Rattle.xcf_walk.specs.Cursor.{Leads, Reads};
 ghost use Rattle.xcf_parse.specs.Parts.{TilesLeft};
 ghost use Rattle.xcf_parse.specs.Hierarchy.{pointerSize, agrees, pointer, rest, tiles, hierarchy};
 use xcf_grid::tile_count;
@@ -101,7 +101,7 @@ pub fn tiles(cursor: Cursor, file: &[u8], n: u32) -> Cursor
 // A hierarchy and its first level, for a drawable of these sides and this depth.
 pub fn hierarchy(cursor: Cursor, file: &[u8], width: u32, height: u32, depth: u32) -> PlaceRead
     requires { ⌜ (width ≤ 16384) × (height ≤ 16384) ⌝ }
-    ensures { λ r. ⌜ Leads cursor (hierarchy pointerSize width height depth) (now (file .entry)) (r .cursor) (r .place) ⌝ }
+    ensures { λ r. ⌜ Reads cursor (hierarchy pointerSize width height depth) (now (file .entry)) 0 (r .cursor) (r .place) ⌝ }
     ensures { λ r. ⌜ r .place ≤ length (now (file .entry)) ⌝ }
 {
     let first = agrees(cursor, file, width);
@@ -113,8 +113,13 @@ pub fn hierarchy(cursor: Cursor, file: &[u8], width: u32, height: u32, depth: u3
     let sixth = agrees(fifth, file, width);
     let seventh = agrees(sixth, file, height);
     let count = tile_count(width, height) as u32;
-    PlaceRead {
-        place: seventh.place(),
-        cursor: tiles(seventh, file, count),
+    let place = seventh.place();
+    let end = tiles(seventh, file, count);
+    if end.number != 0 {
+        return PlaceRead {
+            place: 0,
+            cursor: end,
+        };
     }
+    PlaceRead { place, cursor: end }
 }

@@ -3,9 +3,9 @@ ghost use mathlib.Core.Path.{_≡_};
 ghost use Prim.Native.Nat.{_≤_};
 ghost use mathlib.Core.Bool.{cond};
 ghost use lib.Dec.{eqb};
-ghost use Rattle.xcf_walk.specs.Cursor.{Leads};
+ghost use Rattle.xcf_walk.specs.Cursor.{Leads, Reads};
 ghost use Rattle.xcf_parse.specs.Image.{baseOk, baseType, head};
-ghost use Rattle.xcf_parse.specs.Parts.{fileStart};
+ghost use Rattle.xcf_parse.specs.Parts.{fileStart, noHead};
 use crate::drawable::side;
 use crate::header::header;
 use xcf_walk::cursor::Cursor;
@@ -58,7 +58,7 @@ fn unmapped(base: u32) -> u32
 }
 
 pub fn read_head(file: &[u8]) -> HeadRead
-    ensures { λ r. ⌜ Leads fileStart head (now (file .entry)) (r .cursor) (r .head) ⌝ }
+    ensures { λ r. ⌜ Reads fileStart head (now (file .entry)) noHead (r .cursor) (r .head) ⌝ }
     ensures { λ r. ⌜ (r .head .width ≤ 16384) × (r .head .height ≤ 16384) ⌝ }
 {
     let version = header(start(0), file);
@@ -67,6 +67,18 @@ pub fn read_head(file: &[u8]) -> HeadRead
     let base = base_type(height.cursor, file, version.version);
     let p = base.cursor.properties(file, 0, unmapped(base.value));
     let next = p.cursor;
+    if next.number != 0 {
+        return HeadRead {
+            head: Head {
+                version: 0,
+                width: 0,
+                height: 0,
+                base: 0,
+                compression: 0,
+            },
+            cursor: next,
+        };
+    }
     HeadRead {
         head: Head {
             version: version.version,

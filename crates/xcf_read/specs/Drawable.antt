@@ -9,7 +9,7 @@ use Rattle.xcf_parse.specs.declared.drawable.Layer.{Layer}
 use Rattle.xcf_parse.specs.declared.drawable.Owner.{Owner}
 use Rattle.xcf_parse.specs.Hierarchy.{hierarchy}
 use Rattle.xcf_table.specs.Canvas.{depthOf}
-use Rattle.xcf_parse.specs.Drawable.{fields, layer, channel}
+use Rattle.xcf_parse.specs.Drawable.{layer, channel}
 use Rattle.xcf_row.specs.Row.{layerRow, channelRow, maskOwner, channelOwner}
 
 -- a structure's fields come before its hierarchy, and a layer's hierarchy before its mask

@@ -1,4 +1,4 @@
-pub mod Answer
 pub mod Drawable
 pub mod Image
+pub mod Answer
 pub mod Parts

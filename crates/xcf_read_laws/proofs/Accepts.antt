@@ -7,7 +7,7 @@ use mathlib.Core.List.{List}
 use borrow.Author.Tests.{le-leb, eq-eqb}
 use lib.ListN.{length}
 use Rattle.xcf_walk.specs.Walk.{got}
-use Rattle.xcf_table.specs.Table.{tableSize, Rows, fileLimit}
+use Rattle.xcf_table.specs.Table.{tableSize, fileLimit}
 use Rattle.xcf_table.proofs.Tables.{table-length, table-row}
 use Rattle.xcf_read.specs.Image.{Image, structureByte}
 use Rattle.xcf_read.specs.Answer.{Reading, readingOf, reading, rowOf}

@@ -1,1 +1,1 @@
-// xcf_round_trip
+// What the writer writes reads back: statements and proofs only.

@@ -2,7 +2,6 @@
 use Prim.Native.Nat.{ℕ, _+_}
 use mathlib.Core.Bool.{cond}
 use lib.Dec.{eqb}
-use Rattle.xcf_walk.specs.Property.{properties}
 use Rattle.xcf_property.specs.declared.Properties.{Properties}
 use Rattle.xcf_table.specs.declared.Row.{Row}
 use Rattle.xcf_grid.specs.Grid.{tileCount}
@@ -11,9 +10,8 @@ use Rattle.xcf_parse.specs.declared.drawable.Fields.{Fields}
 use Rattle.xcf_parse.specs.declared.drawable.Layer.{Layer}
 use Rattle.xcf_parse.specs.declared.drawable.Owner.{Owner}
 use Rattle.xcf_table.specs.Canvas.{depthOf}
-use Rattle.xcf_parse.specs.Drawable.{fields}
 
--- 1 visible, 2 apply mask, 4 selection, 8 active, 16 group
+-- flags: 1 visible, 2 apply mask, 4 selection, 8 active, 16 group
 unfoldable pub flag : ℕ → ℕ → ℕ
 flag v bit = cond (eqb v 0) 0 bit
 

@@ -1,6 +1,6 @@
 pub mod ExampleRead
 pub mod ExampleWritten
 pub mod ExampleDamaged
-pub mod Theorems
 pub mod ListerNumbers
 pub mod WriterNumbers
+pub mod Theorems

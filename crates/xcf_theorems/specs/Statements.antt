@@ -101,7 +101,7 @@ ListerRefusalsAreListed =
     (limit : ℕ) (file table : List ℕ) (room : ℕ) → listed listerNumbers (listAnswer limit file table room .number) ≡ true
 
 -- Demand 3: damage inside the windows of some tiles changes nothing outside them. One claim over all rows and tiles of any accepted
--- file, in full in `xcf_decode/specs/Isolation.antt`.
+-- file, in full in `xcf_isolation/specs/Isolation.antt`.
 abbrev pub DamageIsIsolated : Type 1
 DamageIsIsolated = Isolation
 

@@ -1,6 +1,6 @@
 -- The fields that every structure is made of.
 use Prim.Native.Nat.{ℕ, _-_}
-use lib.ListN.{length, getD}
+use lib.ListN.{getD}
 use lib.Dec.{eqb}
 use Rattle.xcf_walk.specs.declared.cursor.Name.{Name}
 use Rattle.xcf_walk.specs.Walk.{Walk, done, bytes, here, must, _>>=_, _>>_}

@@ -1,7 +1,6 @@
 -- Property lists: type, length, payload, ended by type 0; one rule for the image's list, a layer's, a mask's and a channel's.
 use Prim.Native.Nat.{ℕ, _+_, _*_}
 use mathlib.Core.Bool.{cond, not}
-use lib.ListN.{length}
 use lib.Dec.{leb, eqb}
 use Rattle.xcf_property.specs.declared.Content.{Content}
 use Rattle.xcf_walk.specs.declared.property.Property.{Property}
@@ -10,6 +9,7 @@ use Rattle.xcf_walk.specs.Walk.{Walk, done, bytes, here, must, Turn, mor
 use Rattle.xcf_walk.specs.Fields.{word}
 use Rattle.xcf_property.specs.Property.{lengthOk, contentOf, isColourMap, isFloating, lacksMap, allowed, absent, put}
 
+-- a payload whose length its type allows
 unfoldable pub payload : ℕ → ℕ → ℕ → Walk Content
 payload kind lengthAt n = do
   must (lengthOk kind n) 6 lengthAt

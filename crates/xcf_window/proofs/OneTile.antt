@@ -1,5 +1,6 @@
 -- Tile t of a row that is not refused. The pointers lie in the file (`pointers-inside`), and the tile's pixels in a scratch
--- (`pixels-small`), so that its decoding is not refused (`tile-not-refused`); what it gives is the tile's (`scratched`).
+-- (`pixels-small`), so that its decoding is not refused (`tile-not-refused`); what it gives is the tile's (`scratched`,
+-- `scratch-pixels`).
 -- Assumes nothing.
 use Prim.Native.Nat.{ℕ, _+_, _-_, _*_, _≤_, _<_}
 use mathlib.Core.Path.{_≡_, ap, sym, _∙_}
@@ -13,7 +14,7 @@ use Rattle.xcf_store.specs.Word.{part}
 use Rattle.xcf_table.specs.declared.Row.{Row}
 use Rattle.xcf_tile.specs.declared.TileAnswer.{TileAnswer}
 use Rattle.xcf_grid.specs.Grid.{tileWidth, tileHeight}
-use Rattle.xcf_tile.specs.Tile.{tileOf}
+use Rattle.xcf_tile.specs.Tile.{Tile, tileOf}
 use Rattle.xcf_tile.specs.Answer.{usableTile, decodeRefusal, decodeAnswer, decodePixels, Decoded}
 use Rattle.xcf_range.proofs.Bounds.{bounds-within}
 use Rattle.xcf_laws.proofs.Products.{small}
@@ -37,6 +38,9 @@ decoded-gives : {ws : List ℕ} {w h depth compression : ℕ} {old new : List �
     → (a .mark ≡ tileOf ws w h depth compression .mark) × (new ≡ tileOf ws w h depth compression .pixels)
 unfolding decodeAnswer decodePixels
 decoded-gives z d = (ap (λ x. x .mark) (d .answer) ∙ rw z, d .pixels ∙ rw z)
+
+pub scratch-pixels : {t : Tile} {m : ℕ} {old new : List ℕ} → Scratched t m old new → take (length (t .pixels)) new ≡ t .pixels
+scratch-pixels {t} {old = old} s = rw (s .content) (take-append-seam (t .pixels) (drop (length (t .pixels)) old))
 
 listed-small : {m : ℕ} → Listed m → m ≤ 21
 listed-small l = ⊎-elim (λ e. omega arith) (λ l'. ⊎-elim (λ e. omega arith) (λ e. omega arith) l') l
@@ -82,5 +86,5 @@ module _ {f : List ℕ} {r : Row} {compression t : ℕ} {s : Frame} (ready : Rea
       record {
         mark = g .0 ∙ ap (λ x. x .mark) same;
         size = length-front scratch new size (whole ∙ sym exact);
-        pixels = rw (← pixels) (take-append-seam new (drop size scratch));
+        content = rw (← pixels, whole);
       }

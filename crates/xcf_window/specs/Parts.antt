@@ -1,8 +1,8 @@
 -- The contracts of a row's tile, by name.
 use Prim.Native.Nat.{ℕ, _≤_}
 use mathlib.Core.Path.{_≡_}
-use mathlib.Core.List.{List}
-use lib.ListN.{length, take}
+use mathlib.Core.List.{List, _++_}
+use lib.ListN.{length, drop}
 use Rattle.xcf_walk.specs.Walk.{got, run}
 use Rattle.xcf_table.specs.declared.Row.{Row}
 use Rattle.xcf_grid.specs.Grid.{tileCount}
@@ -23,8 +23,8 @@ pub record Ready (f : List ℕ) (r : Row) (compression : ℕ) : Type 0 where
   pub end : ℕ
   pub pointers : got tt end ≡ run (tiles pointerSize (r .count) 0) f (r .tiles)
 
--- the tile's mark, and its pixels at the start of a scratch that keeps its length
+-- the tile's mark, and its pixels at the start of a scratch, whose rest stays
 pub record Scratched (t : Tile) (m : ℕ) (old new : List ℕ) : Type 0 where
   pub mark : m ≡ t .mark
   pub size : length new ≡ length old
-  pub pixels : take (length (t .pixels)) new ≡ t .pixels
+  pub content : new ≡ t .pixels ++ drop (length (t .pixels)) old

@@ -6,7 +6,6 @@ use Rattle.xcf_table.specs.declared.Row.{Row}
 use Rattle.xcf_table.specs.Table.{tableSize, fileLimit}
 use Rattle.xcf_grid.specs.Grid.{tileCount}
 use Rattle.xcf_range.specs.Range.{within}
-use Rattle.xcf_parse.specs.Hierarchy.{tiles}
 
 -- kind 1 to 3, sides and depth in range; a row that the table does not have is an unused one, of kind 0
 unfoldable pub inRange : Row → Bool

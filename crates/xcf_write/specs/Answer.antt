@@ -17,6 +17,7 @@ use Rattle.xcf_body.specs.Rows.{pixelsSize, drawablesFrom, usedRows}
 abbrev pub answered : ℕ → ℕ → ℕ → WriteAnswer
 answered n p size = record { number = n; place = p; length = size }
 
+-- the file that the used rows are written as
 unfoldable pub fileOf : Canvas → List ℕ → List ℕ → List ℕ → List ℕ
 fileOf c table names pixels = fileBytes c (drawablesFrom table (usedRows table) 0 names pixels)
 

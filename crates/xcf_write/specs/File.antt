@@ -10,15 +10,17 @@ use Rattle.xcf_drawable.specs.Drawable.{Drawable, drawableSize}
 use Rattle.xcf_body.specs.Rows.{drawablesBytes}
 use Rattle.xcf_image.specs.Image.{isNewMode, imageBytes}
 
+-- the places of the drawables of a kind, where the first is at p
 unfoldable pub placesOf : ℕ → List Drawable → ℕ → List ℕ
 placesOf kind [] p = []
 placesOf kind (d ∷ ds) p = when (eqb (d .row .kind) kind) (p ∷ []) ++ placesOf kind ds (p + drawableSize d)
 
+-- the version: 2 if a mode is 19, 20 or 21, else 0
 unfoldable pub versionOf : List Drawable → ℕ
 versionOf [] = 0
 versionOf (d ∷ ds) = cond (isNewMode (d .row)) 2 (versionOf ds)
 
--- its length: where the first drawable begins
+-- the length of the image's structure: where the first drawable begins
 unfoldable pub imageSize : Canvas → List Drawable → ℕ
 imageSize c ds = length (imageBytes c (versionOf ds) (placesOf 1 ds 0) (placesOf 3 ds 0))
 

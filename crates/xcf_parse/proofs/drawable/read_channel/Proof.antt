@@ -1,5 +1,5 @@
 -- `read_channel` meets its contract: two sides like the owner's and the fields are the walk's do block step by step;
--- the bounds are those of `read_fields`.
+-- the bounds, and what stands beside a refusal, are those of `read_fields`.
 use borrow.Author.Needs.{needs}
 use Rattle.xcf_walk.proofs.Resume.{then}
 use Rattle.xcf_parse.specs.Drawable.{channel}
@@ -17,7 +17,11 @@ read-fields-requires c κs = search needs
 
 returns : tie.Need-returns
 unfolding channel
-returns c = (then _ (c .before .before .side-like .ensures) (then _ (c .before .side-like2 .ensures) (c .read-fields .ensures .0)), c .read-fields .ensures .1)
+returns c =
+    let x = c .read-fields .ensures in (
+      record { leads = then _ (c .before .before .side-like .ensures) (then _ (c .before .side-like2 .ensures) (x .0 .leads)); absent = x .0 .absent },
+      x .1,
+    )
 
 pub read-channel-spec : {M : Type 1} → statement M
 read-channel-spec =

@@ -1,15 +1,38 @@
--- `hierarchy` meets its contract: the walk's do block step by step, and the place lies behind a word that was read.
+-- `hierarchy` meets its contract: the walk's do block step by step (`leads`), and the place lies behind a word that was read. Beside a
+-- refusal stands 0.
 use mathlib.Core.Path.{_∙_}
 use native.Mathlib.Omega.{arith}
 use borrow.Author.Needs.{needs}
-use Rattle.xcf_walk.proofs.Resume.{then, then-here, ends, by-jump, is-live}
+use Rattle.xcf_walk.specs.Cursor.{Leads}
+use Rattle.xcf_walk.proofs.Resume.{then, then-here, ends, by-jump, is-live, reads-live, reads-none}
 use Rattle.xcf_walk.proofs.Within.{moves-on}
-use Rattle.xcf_parse.specs.Hierarchy.{hierarchy}
+use Rattle.xcf_parse.specs.Hierarchy.{pointerSize, hierarchy}
 use Rattle.xcf_parse.proofs.Pointers.{advances-agrees}
 use Rattle.xcf_grid.proofs.FewTiles.{few-tiles}
 use Rattle.xcf_parse.proofs.Places.{place-low}
 use Rattle.xcf_parse.proofs.hierarchy.hierarchy.Statement.{statement}
 use Rattle.xcf_parse.proofs.hierarchy.hierarchy.Tie as tie
+
+-- from a place to the one before it that a need cites
+abbrev seventh : tie.After-tiles → tie.After-agrees5
+seventh c = c .before .before .before
+
+abbrev fourth : tie.After-tiles → tie.After-rest
+fourth c = seventh c .before .before .before .before
+
+abbrev begin : tie.After-tiles → tie.Start
+begin c = fourth c .before .before .before .before .before .before
+
+leads : (c : tie.After-tiles) → let a = begin c .args in
+    Leads (a .cursor) (hierarchy pointerSize (a .width) (a .height) (a .depth)) (a .file .now) (c .tiles .result) (c .before .place .result)
+unfolding hierarchy
+leads c =
+    let r = fourth c in
+    let s = seventh c in
+    then _ (r .before .before .before .before .agrees .ensures) (then _ (r .before .before .before .agrees2 .ensures) (then _ (r .before .before .agrees3 .ensures)
+    (then _ (r .before .pointer .ensures) (then _ (r .rest .ensures) (then _ (by-jump _ _ (s .before .before .jump .ensures))
+    (then _ (s .before .agrees4 .ensures) (then _ (s .agrees5 .ensures)
+    (then-here _ _ (λ h. c .before .place .ensures ∙ is-live (s .agrees5 .result) _ _ h) (then _ (rw (c .before .before .tile-count .ensures) at (c .tiles .ensures)) ends)))))))))
 
 agrees-requires : tie.Need-agrees-requires
 agrees-requires c κs = search needs
@@ -53,15 +76,13 @@ tiles-requires : tie.Need-tiles-requires
 tiles-requires c κs = search needs
 
 returns : tie.Need-returns
-unfolding hierarchy
-returns c =
-    let seventh = c .before .before .before in
-    let fourth = seventh .before .before .before .before in (
-      then _ (fourth .before .before .before .before .agrees .ensures) (then _ (fourth .before .before .before .agrees2 .ensures) (then _ (fourth .before .before .agrees3 .ensures)
-          (then _ (fourth .before .pointer .ensures) (then _ (fourth .rest .ensures) (then _ (by-jump _ _ (seventh .before .before .jump .ensures))
-          (then _ (seventh .before .agrees4 .ensures) (then _ (seventh .agrees5 .ensures)
-          (then-here _ _ (λ h. c .before .place .ensures ∙ is-live (seventh .agrees5 .result) _ _ h) (then _ (rw (c .before .before .tile-count .ensures) at (c .tiles .ensures)) ends))))))))),
-      place-low _ _ (λ h. moves-on (advances-agrees _) (seventh .agrees5 .ensures) h .1) (c .before .place .ensures),
+returns c = (reads-none (c .if1 .taken) (leads (c .before .before)), omega arith)
+
+returns-2 : tie.Need-returns-2
+returns-2 c =
+    let t = c .before .before in (
+      reads-live (c .if1 .left) (leads t),
+      place-low _ _ (λ h. moves-on (advances-agrees _) (seventh t .agrees5 .ensures) h .1) (t .before .place .ensures),
     )
 
 pub hierarchy-spec : {M : Type 1} → statement M
@@ -81,4 +102,5 @@ hierarchy-spec =
     cast-count
     place-requires
     tiles-requires
-    returns)
+    returns
+    returns-2)

@@ -1,9 +1,32 @@
--- `read_head` meets its contract: the walk's do block step by step; the sides are small, as `side` promises.
+-- `read_head` meets its contract: the walk's do block step by step (`leads`); the sides are small, as `side` promises. Beside a
+-- refusal stands no head.
+use native.Mathlib.Omega.{arith}
 use borrow.Author.Needs.{needs}
-use Rattle.xcf_walk.proofs.Resume.{then, ends}
+use Rattle.xcf_walk.specs.Cursor.{Leads}
+use Rattle.xcf_walk.proofs.Resume.{then, ends, reads-live, reads-none}
 use Rattle.xcf_parse.specs.Image.{head}
+use Rattle.xcf_parse.specs.Parts.{fileStart}
 use Rattle.xcf_parse.proofs.image.read_head.Statement.{statement}
 use Rattle.xcf_parse.proofs.image.read_head.Tie as tie
+
+-- from a place to the one before it that a need cites
+abbrev high : tie.After-properties → tie.After-side2
+high c = c .before .before .before
+
+leads : (c : tie.After-properties) → let b = high c in
+    Leads fileStart head (b .before .before .before .before .before .args .file .now) (c .properties .result .cursor)
+    (record {
+      version = b .before .before .header .result .version;
+      width = b .before .side .result .value;
+      height = b .side2 .result .value;
+      base = c .before .before .base-type .result .value;
+      compression = c .properties .result .properties .compression;
+    })
+unfolding head
+leads c =
+    let b = c .before .before .before in
+    then _ (rw (b .before .before .before .start .ensures) at (b .before .before .header .ensures)) (then _ (b .before .side .ensures .0) (then _ (b .side2 .ensures .0)
+    (then _ (c .before .before .base-type .ensures) (then _ (rw (c .before .unmapped .ensures) at (c .properties .ensures .leads)) ends))))
 
 start-requires : tie.Need-start-requires
 start-requires c κs = search needs
@@ -27,13 +50,13 @@ properties-requires : tie.Need-properties-requires
 properties-requires c κs = search needs
 
 returns : tie.Need-returns
-unfolding head
-returns c =
-    let b = c .before .before .before .before in (
-      then _ (rw (b .before .before .before .start .ensures) at (b .before .before .header .ensures)) (then _ (b .before .side .ensures .0) (then _ (b .side2 .ensures .0)
-          (then _ (c .before .before .before .base-type .ensures) (then _ (rw (c .before .before .unmapped .ensures) at (c .before .properties .ensures .leads)) ends)))),
-      (b .before .side .ensures .1, b .side2 .ensures .1),
-    )
+returns c = (reads-none (c .if1 .taken) (leads (c .before .before .before)), (omega arith, omega arith))
+
+returns-2 : tie.Need-returns-2
+returns-2 c =
+    let p = c .before .before .before in
+    let b = high p in
+    (reads-live (c .if1 .left) (leads p), (b .before .side .ensures .1, b .side2 .ensures .1))
 
 pub read-head-spec : {M : Type 1} → statement M
 read-head-spec =
@@ -46,4 +69,5 @@ read-head-spec =
     base-type-requires
     unmapped-requires
     properties-requires
-    returns)
+    returns
+    returns-2)

@@ -57,7 +57,7 @@ returns c =
     let x = down .before .before .before in
     let fits = x .before .before .before .pre .1 .1 in (
       row-filled _ _ _ fits (rw (row .channel-row .ensures) at (put .put-row .ensures))
-          (then _ (x .read-channel .ensures .0) (then _ (by-jump _ _ (down .jump .ensures)) (then _ (tiles .hierarchy .ensures .0) ends))),
+          (then _ (x .read-channel .ensures .0 .leads) (then _ (by-jump _ _ (down .jump .ensures)) (then _ (tiles .hierarchy .ensures .0 .leads) ends))),
       refl,
     )
 

@@ -57,8 +57,8 @@ returns c =
     let filled = mask .mask-rows .ensures in (
       record {
         leads =
-            then _ (read .read-layer .ensures .0) (then _ (by-jump _ _ (down .jump .ensures))
-            (then _ (rw (tiles .before .depth-of .ensures) at (tiles .hierarchy .ensures .0))
+            then _ (read .read-layer .ensures .0 .leads) (then _ (by-jump _ _ (down .jump .ensures))
+            (then _ (rw (tiles .before .depth-of .ensures) at (tiles .hierarchy .ensures .0 .leads))
             (rw (put .put-row .ensures, row .layer-row .ensures, put-adds) at (filled .0 .leads))));
         size = filled .0 .size ∙ rw (put .put-row .ensures) (put-length _ _ _);
       },

@@ -63,7 +63,7 @@ returns c =
     let b = first .before .before .before in
     let canvas = first .before .before .canvas-of .ensures in
     let d = all .drawables2 .ensures in (
-      then _ (b .before .before .before .read-head .ensures .0) (then _ (b .before .pointers .ensures .0) (then _ (b .pointers2 .ensures .0)
+      then _ (b .before .before .before .read-head .ensures .0 .leads) (then _ (b .before .pointers .ensures .0) (then _ (b .pointers2 .ensures .0)
           (then _ (rw canvas at (first .drawables .ensures .0 .leads)) (then _ (rw canvas at (d .0 .leads)) ends)))),
       (
         omega (arith, d .1, first .drawables .ensures .1, b .before .pointers .ensures .1, b .pointers2 .ensures .1),

@@ -9,7 +9,7 @@ unused-row-requires c κs = search needs
 
 returns : tie.Need-returns
 unfolding seenAt before rowBefore
-returns c = cc
+returns c = rw (c .unused-row .ensures)
 
 pub none-spec : {M : Type 1} → statement M
 none-spec = tie.close (tie.spec unused-row-requires returns)
