@@ -65,10 +65,14 @@ fn tried() -> Edits {
     edits
 }
 
-/// Every edit is named under its crate, and no other is.
+/// Every edit is named under its crate, and no other is; a crate that has any
+/// has two.
 #[test]
 fn promises_name_what_is_tried() {
     let tried = tried();
-    assert!(tried.values().map(BTreeSet::len).sum::<usize>() >= 90);
+    assert!(tried.len() >= 20);
+    for (name, edits) in &tried {
+        assert!(edits.len() >= 2, "{name}: {edits:?}");
+    }
     assert_eq!(named(), tried);
 }

@@ -1,1 +1,1 @@
-// What was encoded is read back: statements and proofs only.
+// What was encoded is read back: proofs only.

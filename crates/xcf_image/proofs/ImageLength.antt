@@ -12,8 +12,8 @@ use Rattle.xcf_table.specs.Table.{rowAt}
 use Rattle.xcf_table.specs.declared.canvas.Canvas.{Canvas}
 use Rattle.xcf_parse.specs.Header.{tags}
 use Rattle.xcf_store.specs.Word.{wordBytes, words}
-use Rattle.xcf_structure.specs.Structure.{propertyBytes, listBytes, imageProperties}
-use Rattle.xcf_image.specs.Image.{isNewMode, imageBytes}
+use Rattle.xcf_structure.specs.Structure.{propertyBytes, listBytes}
+use Rattle.xcf_image.specs.Image.{imageProperties, isNewMode, imageBytes}
 use Rattle.xcf_image.specs.Parts.{kindPlaces, versionFrom}
 use Rattle.xcf_image.proofs.RowsLoop.{one-when}
 use Rattle.xcf_store.proofs.Words.{words-length}

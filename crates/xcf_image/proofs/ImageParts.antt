@@ -8,8 +8,8 @@ use lib.ListN.{length, getD, length-append}
 use Rattle.xcf_table.specs.declared.canvas.Canvas.{Canvas}
 use Rattle.xcf_parse.specs.Header.{magic, tags}
 use Rattle.xcf_store.specs.Word.{wordBytes, words}
-use Rattle.xcf_structure.specs.Structure.{propertyBytes, listBytes, imageProperties}
-use Rattle.xcf_image.specs.Image.{imageBytes}
+use Rattle.xcf_structure.specs.Structure.{propertyBytes, listBytes}
+use Rattle.xcf_image.specs.Image.{imageProperties, imageBytes}
 use Rattle.xcf_store.proofs.Words.{words-length}
 use Rattle.xcf_store.proofs.Room.{Fits}
 

@@ -17,10 +17,10 @@ use Rattle.xcf_isolation.specs.Isolation.{Damaged, RowIsolated, Isolatio
 use Rattle.xcf_window.proofs.TilePointers.{tiles-end}
 use Rattle.xcf_isolation.proofs.Encodings.{tile-good-when-valid}
 use Rattle.xcf_read_laws.proofs.Accepts.{accepts}
-use Rattle.xcf_isolation.proofs.RowDecoded.{row-decoded}
+use Rattle.xcf_decode_laws.proofs.RowDecoded.{row-decoded}
 use Rattle.xcf_isolation.proofs.SameBytes.{structure-same, window-byte-same, read-same}
 use Rattle.xcf_isolation.proofs.SameWindows.{window-same}
-use Rattle.xcf_isolation.proofs.TilesShown.{row-shows}
+use Rattle.xcf_decode_laws.proofs.TilesShown.{row-shows}
 
 -- the same window gives the same tile
 tile-same : (f g : List ℕ) (r : Row) (compression t : ℕ) → window pointerSize g r t ≡ window pointerSize f r t

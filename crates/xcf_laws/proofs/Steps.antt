@@ -14,7 +14,7 @@ pub one-less : (a n : ℕ) → 0 < a → a * n ≡ (a - 1) * n + n
 one-less zero n h = absurd (omega arith)
 one-less (suc a) n h = rw (sub-one, suc-mul)
 
--- of n things, those from thing k on begin with thing k; from the last on there is none
+-- of n things, those from thing k on begin with thing k; behind the last there is none
 pub rest-begins : (n k : ℕ) → k < n → n - k ≡ suc (n - (k + 1))
 rest-begins n k h = omega arith
 

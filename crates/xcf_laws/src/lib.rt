@@ -1,1 +1,1 @@
-// General laws, of choices, steps and copied bytes: proofs only.
+// Laws that many crates need, of choices, steps, copied bytes and the sizes of tiles: proofs only.

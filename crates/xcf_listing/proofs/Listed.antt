@@ -52,9 +52,9 @@ listable file table read n =
     rw (read .answer, read .table) (record { way = x .way; few = few-rows x; size = x .size })
 
 -- a refused file has no rows, by the reader's definition; an accepted one has place 0
-rest-empty : (file table : List ℕ) → (reading file table .answer .number ≡ 0 → ⊥) → reading file table .answer .rows ≡ 0
+no-rows : (file table : List ℕ) → (reading file table .answer .number ≡ 0 → ⊥) → reading file table .answer .rows ≡ 0
 unfolding reading
-rest-empty file table =
+no-rows file table =
     by-cases Says (eqb (length table) tableSize) _ _
     (λ _. by-cases Says (leb (length file) fileLimit) _ _ (λ _. walked (run (image pointerSize) file 0)) (λ _ _. refl))
     (λ _ _. refl)
@@ -108,7 +108,7 @@ module _ (limit : ℕ) (file table text : List ℕ) where
           → r ≡ record { number = a .number; place = a .place; marked = 0; length = end } → Lists limit file table text r after new
       unfolding markedTiles linesOf
       lists-refused n p e =
-          let none = rest-empty file table (rw (read .answer) at n) in
+          let none = no-rows file table (rw (read .answer) at n) in
           rw (e, read .answer, read .table) (lists-put (within limit file table short) (rw none) (rw (← read .answer, ne-eqb _ _ n) p))
 
       pub lists-accepted : {marked : ℕ} → a .number ≡ 0 → marked ≡ markedTiles file after (a .compression) 0 (a .rows)

@@ -89,7 +89,7 @@ fn layer_type(cursor: Cursor, file: &[u8], base: u32) -> WordRead
 }
 
 impl Fields {
-    // Beside a refusal.
+    // What stands beside a refusal.
     fn none() -> Fields
         ensures { λ r. ⌜ r ≡ noFields ⌝ }
     {

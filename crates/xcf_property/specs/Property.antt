@@ -89,6 +89,7 @@ put list kind c p = record {
   group = cond (eqb kind 29) 1 (p .group);
 }
 
+-- the values beside a refusal
 abbrev pub noContent : Content
 noContent = record { first = 0; second = 0 }
 

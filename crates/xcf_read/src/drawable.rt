@@ -4,7 +4,6 @@ ghost use Prim.Native.Nat.{_+_, _*_, _≤_, _<_};
 ghost use lib.ListN.{length};
 ghost use Rattle.xcf_table.specs.Table.{rowSize, tableSize, rowsIn, fileLimit};
 ghost use Rattle.xcf_parse.specs.Hierarchy.{pointerSize};
-ghost use Rattle.xcf_parse.specs.Drawable.{fields, layer};
 ghost use Rattle.xcf_read.specs.Drawable.{channelRows, maskRows, layerRows};
 ghost use Rattle.xcf_read.specs.Parts.{drawable, Filled, rowsMost};
 use xcf_parse::drawable::Layer;

@@ -60,11 +60,11 @@ straight-tiles size (suc n) before =
     straight-bind _ (straight-must _ _ _) λ _. straight-tiles size n p
 
 module _ {f : List ℕ} {S : ℕ → Type 0} where
-  rest-empty-read : RowsRead f S 0 noRows
-  rest-empty-read = record { few = omega arith; size = refl; row = λ k h. absurd (omega arith) }
+  no-rows-read : RowsRead f S 0 noRows
+  no-rows-read = record { few = omega arith; size = refl; row = λ k h. absurd (omega arith) }
 
-  rest-begins-read : {m n : ℕ} {rows : Rows} → m ≤ n → RowsRead f S m rows → RowsRead f S n rows
-  rest-begins-read le x = record { few = omega (arith, x .few); size = x .size; row = x .row }
+  more-rows-read : {m n : ℕ} {rows : Rows} → m ≤ n → RowsRead f S m rows → RowsRead f S n rows
+  more-rows-read le x = record { few = omega (arith, x .few); size = x .size; row = x .row }
 
   row-read-added : {most : ℕ} {rows : Rows} {r : Row} → RowsRead f S most rows → RowRead f S r → RowsRead f S (most + 1) (addRow rows r)
   unfolding addRow
@@ -116,26 +116,26 @@ module _ {f : List ℕ} {S : ℕ → Type 0} where
   ensures-mask-rows : {most : ℕ} {rows : Rows} (l : Layer) (k : ℕ) → RowsRead f S most rows → Ensures f S (RowsRead f S (most + 1)) (maskRows pointerSize l k rows)
   unfolding maskRows maskOwner
   ensures-mask-rows l k x =
-      ensures-cond (eqb (l .mask) 0) (ensures-done (rest-begins-read (omega arith) x)) (ensures-next (jump _) _ λ _. ensures-channel-rows _ (omega arith) x)
+      ensures-cond (eqb (l .mask) 0) (ensures-done (more-rows-read (omega arith) x)) (ensures-next (jump _) _ λ _. ensures-channel-rows _ (omega arith) x)
 
   ensures-layer-rows : {most : ℕ} {rows : Rows} (c : Canvas) → RowsRead f S most rows → Ensures f S (RowsRead f S (most + 2)) (layerRows pointerSize c rows)
   unfolding layerRows layerRow
   ensures-layer-rows c x =
       ensures-bind _ (ensures-layer pointerSize _) λ l s. ensures-next (jump _) _ λ _. ensures-bind _ (ensures-hierarchy _ _ _) λ place t.
-      ensures-weaken (λ _. rest-begins-read (omega arith)) (ensures-mask-rows l _ (row-read-added x (row-read (omega arith) (s .width) (s .height) (s .depth) refl t)))
+      ensures-weaken (λ _. more-rows-read (omega arith)) (ensures-mask-rows l _ (row-read-added x (row-read (omega arith) (s .width) (s .height) (s .depth) refl t)))
 
   -- drawables that each add at most so many rows
   ensures-drawables : (one : Rows → Walk Rows) (step all : ℕ) → ((n : ℕ) (rows : Rows) → RowsRead f S n rows → Ensures f S (RowsRead f S (n + step)) (one rows))
       → (ps : List ℕ) {most : ℕ} {rows : Rows} → most + step * length ps ≤ all → RowsRead f S most rows → Ensures f S (RowsRead f S all) (drawables one ps rows)
   unfolding drawables
-  ensures-drawables one step all h [] le x = ensures-done (rest-begins-read (omega arith) x)
+  ensures-drawables one step all h [] le x = ensures-done (more-rows-read (omega arith) x)
   ensures-drawables one step all h (p ∷ ps) le x = ensures-next (jump p) _ λ _. ensures-bind _ (h _ _ x) λ next y. ensures-drawables one step all h ps (omega arith) y
 
 ensures-image : (f : List ℕ) → Ensures f (structureByte f) (ImageRead f) (image pointerSize)
 unfolding image canvasChannelRows channelOwner
 ensures-image f =
     ensures-bind _ ensures-head λ h c. ensures-bind _ (ensures-pointers pointerSize 48) λ layers l. ensures-bind _ (ensures-pointers pointerSize 32) λ channels m.
-    ensures-bind _ (ensures-drawables _ 2 96 (λ _ _. ensures-layer-rows _) layers (omega arith) rest-empty-read) λ first x.
+    ensures-bind _ (ensures-drawables _ 2 96 (λ _ _. ensures-layer-rows _) layers (omega arith) no-rows-read) λ first x.
     ensures-bind _ (ensures-drawables _ 1 128 (λ _ _. ensures-channel-rows _ (omega arith)) channels (omega arith) x) λ all y.
     ensures-done (record { few = y .few; size = y .size; compression = c; row = y .row })
 

@@ -22,11 +22,11 @@ use Rattle.xcf_table.specs.Canvas.{sideOk}
 use Rattle.xcf_parse.specs.Image.{baseOk, baseType, head}
 use Rattle.xcf_read.specs.Image.{canvasOf, image}
 use Rattle.xcf_store.specs.Word.{wordBytes, words}
-use Rattle.xcf_structure.specs.Structure.{propertyBytes, listBytes, imageProperties}
+use Rattle.xcf_structure.specs.Structure.{propertyBytes, listBytes}
+use Rattle.xcf_image.specs.Image.{imageProperties, imageBytes}
 use Rattle.xcf_drawable.specs.Drawable.{Drawable, drawableBytes}
 use Rattle.xcf_body.specs.Rows.{drawablesBytes, usedRows}
 use Rattle.xcf_write.specs.File.{placesOf, versionOf, imageSize, fileBytes}
-use Rattle.xcf_image.specs.Image.{imageBytes}
 use Rattle.xcf_write.specs.Answer.{fileOf}
 use Rattle.xcf_store.proofs.Words.{words-length}
 use Rattle.xcf_image.proofs.ImageLength.{version-old-or-new, tag-length, image-length}

@@ -17,7 +17,8 @@ use Rattle.xcf_walk.specs.Property.{properties}
 use Rattle.xcf_laws.proofs.Cases.{cond-same, by-cases}
 use Rattle.xcf_table.specs.declared.Row.{Row}
 use Rattle.xcf_usable.specs.Usable.{isLayer, apply, selection, active}
-use Rattle.xcf_structure.specs.Structure.{Property, propertyBytes, listBytes, worded, imageProperties, drawableProperties}
+use Rattle.xcf_structure.specs.Structure.{Property, propertyBytes, listBytes, worded, drawableProperties}
+use Rattle.xcf_image.specs.Image.{imageProperties}
 use Rattle.xcf_store.proofs.Words.{words-length}
 use Rattle.xcf_round_trip.proofs.Parts.{Stands, propertiesOf}
 use Rattle.xcf_round_trip.proofs.Steps.{Reads}

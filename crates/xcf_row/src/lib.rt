@@ -1,9 +1,7 @@
 // The row of a layer, a mask or a channel, from what its structure says.
 ghost use mathlib.Core.Path.{_≡_};
-ghost use Prim.Native.Nat.{_+_, _≤_};
-ghost use lib.ListN.{length};
+ghost use Prim.Native.Nat.{_≤_};
 ghost use Rattle.xcf_table.specs.Table.{fileLimit};
-ghost use Rattle.xcf_parse.specs.Drawable.{fields};
 ghost use Rattle.xcf_row.specs.Row.{flag, layerFlags, channelFlags, layerRow, channelRow, maskOwner, channelOwner};
 ghost use Rattle.xcf_parse.specs.Parts.{FieldsLow, LayerLow};
 use xcf_grid::tile_count;

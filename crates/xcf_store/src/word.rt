@@ -1,6 +1,6 @@
 // Words read at a place.
 ghost use mathlib.Core.Path.{_≡_};
-ghost use Prim.Native.Nat.{_+_, _-_, _≤_};
+ghost use Prim.Native.Nat.{_+_, _≤_};
 ghost use lib.ListN.{length};
 ghost use Rattle.xcf_store.specs.Word.{part, bigEndian, wordOf};
 

@@ -1,4 +1,4 @@
--- The bytes that the structures of a file are written as.
+-- The bytes that a drawable's structures are written as.
 use Prim.Native.Nat.{ℕ, _+_}
 use mathlib.Core.List.{List, [], _∷_, _++_}
 use mathlib.Core.Bool.{Bool, cond}
@@ -28,10 +28,6 @@ listBytes (x ∷ xs) = propertyBytes x ++ listBytes xs
 -- a property whose payload is some words
 abbrev pub worded : ℕ → List ℕ → Property
 worded kind ns = record { kind = kind; payload = words ns }
-
--- the image's: type 17 with the value 1, then 0
-unfoldable pub imageProperties : List Property
-imageProperties = record { kind = 17; payload = 1 ∷ [] } ∷ worded 0 [] ∷ []
 
 -- a layer's: 2 if active, 6, 8, 11 if it has a mask, 7, 15, 0; a channel's and a mask's: 4 if selection, 3 if active, 6, 8, 0
 unfoldable pub drawableProperties : Row → Bool → List Property

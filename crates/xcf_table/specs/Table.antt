@@ -75,6 +75,6 @@ rowsIn k table = record { count = k; numbers = take (rowSize * k) table }
 unfoldable pub tableOf : Rows → List ℕ
 tableOf rows = rows .numbers ++ replicate (tableSize - length (rows .numbers)) 0
 
--- the most bytes of a file
+-- the most bytes of a file, so that every place in it fits a row
 abbrev pub fileLimit : ℕ
 fileLimit = 1073741824

@@ -1,6 +1,5 @@
 // The canvas, and what a drawable's sides and type may be.
 ghost use mathlib.Core.Path.{_≡_};
-ghost use Prim.Native.Nat.{_<_};
 ghost use Rattle.xcf_table.specs.Canvas.{sideOk, typeOk, depthOf};
 
 pub struct Canvas {

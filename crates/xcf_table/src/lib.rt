@@ -1,4 +1,4 @@
-// The row table: 128 rows of 16 numbers in a lent slice.
+// The row table: 128 rows of 16 numbers in a lent slice; and the most bytes of a file, which its places are below.
 pub mod canvas;
 
 ghost use mathlib.Core.Path.{_≡_};

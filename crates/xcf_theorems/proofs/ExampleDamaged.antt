@@ -35,7 +35,7 @@ use Rattle.xcf_grid.specs.Pixels.{tabulate, pixelsOf}
 use Rattle.xcf_window.specs.Usable.{fits}
 use Rattle.xcf_decode.specs.Answer.{marksOf, nonzero, rowDecoding}
 use Rattle.xcf_isolation.specs.Isolation.{InChosen, IsTile, Damaged}
-use Rattle.xcf_isolation.proofs.RowDecoded.{row-decoded}
+use Rattle.xcf_decode_laws.proofs.RowDecoded.{row-decoded}
 use Rattle.xcf_isolation.proofs.SameBytes.{read-same}
 use Rattle.xcf_theorems.specs.DamagedExample.{wideFile, damagedFile, FirstTile, DamagedExample}
 use Rattle.xcf_read_laws.proofs.Accepted.{read-walked}

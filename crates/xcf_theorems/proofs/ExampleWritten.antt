@@ -13,11 +13,11 @@ use Rattle.xcf_table.specs.Canvas.{sideOk, typeOk, depthOf}
 use Rattle.xcf_grid.specs.Pixels.{tabulate, shown}
 use Rattle.xcf_usable.specs.Usable.{before, rowBefore, seenAt, masked, drawableOk, layerOk, layerFollows, channelOk, maskFollows, channelFollows, allZero, usableRow, usable, badFrom, badRow}
 use Rattle.xcf_store.specs.Word.{wordBytes, words}
-use Rattle.xcf_structure.specs.Structure.{nameBytes, propertyBytes, listBytes, imageProperties, drawableProperties, structureBytes, hierarchyBytes, levelBytes}
+use Rattle.xcf_structure.specs.Structure.{nameBytes, propertyBytes, listBytes, drawableProperties, structureBytes, hierarchyBytes, levelBytes}
+use Rattle.xcf_image.specs.Image.{imageProperties, imageBytes}
 use Rattle.xcf_drawable.specs.Drawable.{encodings, tilesOf, joined, starts, structureSize, drawableSize, drawableBytes}
 use Rattle.xcf_body.specs.Rows.{drawablesBytes, usedFrom, pixelsSize, drawablesFrom}
 use Rattle.xcf_write.specs.File.{placesOf, versionOf, imageSize, fileBytes}
-use Rattle.xcf_image.specs.Image.{imageBytes}
 use Rattle.xcf_write.specs.Answer.{answered, fileOf, rowsRefusal, inputRefusal, writeAnswer, writeOutput, writing}
 use Rattle.xcf_theorems.specs.ExampleFile.{exampleFile, exampleTable}
 use Rattle.xcf_theorems.specs.Statements.{ExampleFileIsWritten}

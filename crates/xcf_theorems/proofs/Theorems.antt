@@ -21,9 +21,9 @@ use Rattle.xcf_read_laws.proofs.ReadDepends.{read-depends}
 use Rattle.xcf_read_laws.proofs.Numbers.{refusals-listed}
 use Rattle.xcf_tile_laws.proofs.Marks.{mark-listed}
 use Rattle.xcf_grid.proofs.PixelLaws.{pixel-byte, one-tile, tile-shown}
-use Rattle.xcf_isolation.proofs.Counted.{count-decoded}
-use Rattle.xcf_isolation.proofs.Refused.{decoder-listed}
-use Rattle.xcf_isolation.proofs.RowDecoded.{row-decoded}
+use Rattle.xcf_decode_laws.proofs.Counted.{count-decoded}
+use Rattle.xcf_decode_laws.proofs.Refused.{decoder-listed}
+use Rattle.xcf_decode_laws.proofs.RowDecoded.{row-decoded}
 use Rattle.xcf_isolation.proofs.Isolated.{isolated}
 use Rattle.xcf_theorems.proofs.WriterNumbers.{writer-listed}
 use Rattle.xcf_theorems.proofs.ListerNumbers.{lister-listed}

@@ -1,1 +1,1 @@
-// What decides a tile: the bytes consumed, its marks, its pixels. Statements and proofs only.
+// What decides a tile: the bytes consumed, its marks, its pixels. Proofs only.

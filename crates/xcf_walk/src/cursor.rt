@@ -1,7 +1,7 @@
 // A cursor by value: its methods read a word or a string, and hand the moved cursor back.
 ghost use mathlib.Core.Path.{_≡_};
-ghost use Prim.Native.Nat.{_+_, _-_};
-ghost use lib.ListN.{length, getD};
+ghost use Prim.Native.Nat.{_-_};
+ghost use lib.ListN.{getD};
 ghost use lib.Dec.{eqb};
 ghost use Rattle.xcf_store.specs.Word.{part};
 ghost use Rattle.xcf_walk.specs.Fields.{word, string};

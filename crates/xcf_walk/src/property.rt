@@ -1,10 +1,10 @@
 // Property lists: one reader and one loop for the image's, a layer's, a mask's and a channel's.
 ghost use mathlib.Core.Path.{_≡_};
-ghost use Prim.Native.Nat.{_+_, _≤_, _<_};
+ghost use Prim.Native.Nat.{_≤_, _<_};
 ghost use mathlib.Core.Bool.{true};
 ghost use lib.ListN.{length};
 ghost use Rattle.xcf_walk.specs.Property.{payload, colourMap, content, property, propertyTurn, properties};
-ghost use Rattle.xcf_property.specs.Property.{allowed, absent, put, noContent, noProperties};
+ghost use Rattle.xcf_property.specs.Property.{noContent, noProperties};
 ghost use Rattle.xcf_walk.specs.Cursor.{Leads, Reads, noProperty, turnOf};
 use crate::cursor::Cursor;
 use xcf_property::Content;

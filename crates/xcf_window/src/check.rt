@@ -2,10 +2,9 @@
 ghost use mathlib.Core.Path.{_≡_};
 ghost use Prim.Native.Nat.{_≤_};
 ghost use lib.ListN.{length};
-ghost use Rattle.xcf_parse.specs.Hierarchy.{pointerSize, tiles};
+ghost use Rattle.xcf_parse.specs.Hierarchy.{pointerSize};
 ghost use Rattle.xcf_window.specs.Usable.{inRange, inFile, usableRow, fits, rowRefusal};
 use xcf_grid::tile_count;
-use xcf_parse::hierarchy::tiles;
 use xcf_range::outside;
 use xcf_table::FILE_LIMIT;
 use xcf_table::Row;

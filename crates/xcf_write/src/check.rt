@@ -1,6 +1,6 @@
 // What is refused before the file is measured.
 ghost use mathlib.Core.Path.{_≡_};
-ghost use Rattle.xcf_write.specs.Answer.{answered, rowsRefusal, inputRefusal};
+ghost use Rattle.xcf_write.specs.Answer.{rowsRefusal, inputRefusal};
 use crate::WriteAnswer;
 use crate::answered;
 use xcf_body::pixels_size;

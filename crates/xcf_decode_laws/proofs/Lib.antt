@@ -1,0 +1,4 @@
+pub mod Counted
+pub mod Refused
+pub mod RowDecoded
+pub mod TilesShown

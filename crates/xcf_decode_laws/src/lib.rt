@@ -1,0 +1,1 @@
+// What the decoder shows of accepted rows and of tiles, and the numbers of its refusals: proofs only.
