@@ -1,14 +1,11 @@
--- Room for a line, and a line in parts.
+-- A canvas's line in parts.
 use Prim.Native.Nat.{ℕ}
 use mathlib.Core.List.{List, _++_}
 use Rattle.xcf_read.specs.declared.ReadAnswer.{ReadAnswer}
 use Rattle.xcf_text.specs.Text.{newline, spaced}
 use Rattle.xcf_line.specs.Line.{canvas, base, version, compression, rows}
 
--- room for any line, and for half of one
-abbrev pub lineSize : ℕ
-lineSize = 400
-
+-- room for half a line
 abbrev pub halfSize : ℕ
 halfSize = 200
 

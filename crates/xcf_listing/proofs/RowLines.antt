@@ -8,10 +8,9 @@ use native.Mathlib.Numerals.{add-one}
 use native.Mathlib.Omega.{arith}
 use lib.ListN.{length}
 use Rattle.xcf_decode.specs.Answer.{counting}
-use Rattle.xcf_line.specs.Line.{rowLine}
+use Rattle.xcf_row_line.specs.RowLine.{rowLine}
 use Rattle.xcf_listing.specs.Listing.{rowLines}
-use Rattle.xcf_line.specs.Parts.{lineSize}
-use Rattle.xcf_text.specs.Parts.{Puts}
+use Rattle.xcf_text.specs.Parts.{lineSize, Puts}
 use Rattle.xcf_text.proofs.Written.{puts-none, puts-few, puts-then}
 
 module _ (file table : List ℕ) (compression : ℕ) where

@@ -4,10 +4,9 @@ ghost use Prim.Native.Nat.{_+_, _*_, _≤_};
 ghost use lib.ListN.{length};
 ghost use Rattle.xcf_table.specs.Table.{rowSize};
 ghost use Rattle.xcf_listing.specs.Listing.{rowLines, markedTiles};
-ghost use Rattle.xcf_line.specs.Parts.{lineSize};
-ghost use Rattle.xcf_text.specs.Parts.{Puts};
+ghost use Rattle.xcf_text.specs.Parts.{lineSize, Puts};
 use xcf_decode::count_marked;
-use xcf_line::put_row;
+use xcf_row_line::put_row;
 
 // The place behind the lines put, and how many tiles of their rows are marked.
 pub(crate) struct RowsPut {

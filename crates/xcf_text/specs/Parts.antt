@@ -1,4 +1,4 @@
--- Bytes put into a text.
+-- Bytes put into a text, and room for any line.
 use Prim.Native.Nat.{ℕ, _+_, _≤_}
 use mathlib.Core.Path.{_≡_}
 use mathlib.Core.List.{List}
@@ -10,3 +10,7 @@ pub record Puts (old : List ℕ) (at : ℕ) (bs : List ℕ) (most r : ℕ) (new 
   pub behind : r ≡ at + length bs
   pub few : length bs ≤ most
   pub text : new ≡ paste old at bs (length bs)
+
+-- room for any line
+abbrev pub lineSize : ℕ
+lineSize = 400

@@ -2,7 +2,7 @@
 use native.Mathlib.Omega.{arith}
 use borrow.Author.Needs.{needs}
 use Rattle.xcf_line.specs.Line.{refusedLine}
-use Rattle.xcf_line.specs.Parts.{lineSize}
+use Rattle.xcf_text.specs.Parts.{lineSize}
 use Rattle.xcf_text.proofs.Written.{puts-few, puts-then}
 use Rattle.xcf_line.proofs.put_refusal.Statement.{statement}
 use Rattle.xcf_line.proofs.put_refusal.Tie as tie

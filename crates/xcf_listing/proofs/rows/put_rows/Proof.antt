@@ -7,8 +7,7 @@ use native.Mathlib.Omega.{arith}
 use borrow.Author.Needs.{needs}
 use lib.ListN.{length}
 use Rattle.xcf_listing.specs.Listing.{rowLines, markedTiles}
-use Rattle.xcf_line.specs.Parts.{lineSize}
-use Rattle.xcf_text.specs.Parts.{Puts}
+use Rattle.xcf_text.specs.Parts.{lineSize, Puts}
 use Rattle.xcf_listing.proofs.RowLines.{rows-start, rows-turn}
 use Rattle.xcf_listing.proofs.Marked.{tiles-few, tiles-start, tiles-turn}
 use Rattle.xcf_listing.proofs.rows.put_rows.Statement.{statement}

@@ -2,10 +2,10 @@
 use native.Mathlib.Omega.{arith}
 use borrow.Author.Needs.{needs}
 use borrow.Author.Tests.{eq-eqb, ne-eqb}
-use Rattle.xcf_line.specs.Line.{kindName}
+use Rattle.xcf_row_line.specs.RowLine.{kindName}
 use Rattle.xcf_text.proofs.Written.{puts-few}
-use Rattle.xcf_line.proofs.put_kind.Statement.{statement}
-use Rattle.xcf_line.proofs.put_kind.Tie as tie
+use Rattle.xcf_row_line.proofs.put_kind.Statement.{statement}
+use Rattle.xcf_row_line.proofs.put_kind.Tie as tie
 
 slice-aggregate-put-bytes : tie.Need-slice-aggregate-put-bytes
 slice-aggregate-put-bytes c = search needs

@@ -3,11 +3,11 @@
 use lib.ListN.{length-take}
 use native.Mathlib.Omega.{arith}
 use borrow.Author.Needs.{needs}
-use Rattle.xcf_line.specs.Parts.{lineSize}
-use Rattle.xcf_line.proofs.Row.{row-line}
+use Rattle.xcf_text.specs.Parts.{lineSize}
+use Rattle.xcf_row_line.proofs.Row.{row-line}
 use Rattle.xcf_text.proofs.Written.{puts-few, puts-then}
-use Rattle.xcf_line.proofs.put_row.Statement.{statement}
-use Rattle.xcf_line.proofs.put_row.Tie as tie
+use Rattle.xcf_row_line.proofs.put_row.Statement.{statement}
+use Rattle.xcf_row_line.proofs.put_row.Tie as tie
 
 mul-start : tie.Need-mul-start
 mul-start c = search needs

@@ -8,7 +8,7 @@ use lib.ListN.{length, take, drop, getD}
 use Rattle.xcf_table.specs.Table.{rowSize}
 use Rattle.xcf_table.proofs.Rows.{row-there}
 use Rattle.xcf_text.specs.Text.{newline, decimal, spaced, spacedAll}
-use Rattle.xcf_line.specs.Line.{bad, kindName, rowLine}
+use Rattle.xcf_row_line.specs.RowLine.{bad, kindName, rowLine}
 
 -- the line of a row that the table has, with its fields as the code takes them
 pub row-line : (table : List ℕ) (k marked : ℕ) → rowSize * (k + 1) ≤ length table → rowLine table k marked
