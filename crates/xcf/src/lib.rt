@@ -2,6 +2,7 @@
 ghost use mathlib.Core.Path.{_≡_};
 ghost use Rattle.xcf_tile.specs.Answer.{Decoded};
 ghost use Rattle.xcf_encode.specs.Answer.{TileEncoded};
+ghost use Rattle.xcf_store.specs.Pointer.{pointerSize};
 ghost use Rattle.xcf_table.specs.Table.{fileLimit};
 ghost use Rattle.xcf_read.specs.Answer.{Read};
 ghost use Rattle.xcf_decode.specs.Answer.{counting, DrawableDecoded};
@@ -11,6 +12,7 @@ use xcf_decode::DecodeAnswer;
 use xcf_encode::EncodeAnswer;
 use xcf_listing::ListAnswer;
 use xcf_read::ReadAnswer;
+use xcf_store::pointer::POINTER_SIZE;
 use xcf_table::FILE_LIMIT;
 use xcf_table::canvas::Canvas;
 use xcf_tile::TileAnswer;
@@ -34,9 +36,9 @@ pub extern "C" fn xcf_decode(
     pixels: &mut [u8],
     marks: &mut [u8],
 ) -> DecodeAnswer
-    ensures { λ r. ⌜ DrawableDecoded (now (file .entry)) (now (table .entry)) row compression (now (pixels .entry)) (now (marks .entry)) r (now (pixels .exit)) (now (marks .exit)) ⌝ }
+    ensures { λ r. ⌜ DrawableDecoded pointerSize (now (file .entry)) (now (table .entry)) row compression (now (pixels .entry)) (now (marks .entry)) r (now (pixels .exit)) (now (marks .exit)) ⌝ }
 {
-    xcf_decode::decode(file, table, row, compression, pixels, marks)
+    xcf_decode::decode(file, table, row, compression, POINTER_SIZE, pixels, marks)
 }
 
 // How many tiles of the table's row `row` are marked: the decoder's count, with no buffers lent.
@@ -47,9 +49,9 @@ pub extern "C" fn xcf_count_marked(
     row: u32,
     compression: u32,
 ) -> DecodeAnswer
-    ensures { λ r. ⌜ r ≡ counting (now (file .entry)) (now (table .entry)) row compression ⌝ }
+    ensures { λ r. ⌜ r ≡ counting pointerSize (now (file .entry)) (now (table .entry)) row compression ⌝ }
 {
-    xcf_decode::count_marked(file, table, row, compression)
+    xcf_decode::count_marked(file, table, row, compression, POINTER_SIZE)
 }
 
 // The tile of `width` by `height` pixels of `depth` bytes each in a window: plain for compression 0, encoded for 1.

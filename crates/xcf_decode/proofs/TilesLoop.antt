@@ -14,7 +14,6 @@ use lib.Seq.{take-all, take-suc-set}
 use Rattle.xcf_table.specs.declared.Row.{Row}
 use Rattle.xcf_grid.specs.Grid.{tileWidth, tileHeight}
 use Rattle.xcf_tile_laws.proofs.Pixels.{pixels-length}
-use Rattle.xcf_parse.specs.Hierarchy.{pointerSize}
 use Rattle.xcf_grid.proofs.FewTiles.{few-tiles}
 use Rattle.xcf_window.specs.Window.{tile}
 use Rattle.xcf_grid.specs.Pixels.{tabulate}
@@ -27,102 +26,102 @@ use Rattle.xcf_window.proofs.OneTile.{pixels-small, scratch-pixels}
 use Rattle.xcf_decode.proofs.Marked.{nonzero-next-good, nonzero-next-bad, nonzero-below}
 use Rattle.xcf_grid.proofs.Shown.{Shown, shown-none, shown-next, shown-all}
 
-module _ (f : List ℕ) (r : Row) (compression : ℕ) where
+module _ (size : ℕ) (f : List ℕ) (r : Row) (compression : ℕ) where
   abbrev markOf : ℕ → ℕ
-  markOf t = tile pointerSize f r compression t .mark
+  markOf t = tile size f r compression t .mark
 
   abbrev pixelsAt : ℕ → List ℕ
-  pixelsAt t = tile pointerSize f r compression t .pixels
+  pixelsAt t = tile size f r compression t .pixels
 
   pixels-of-length : (t : ℕ) → length (pixelsAt t) ≡ tileWidth (r .width) t * tileHeight (r .width) (r .height) t * r .depth
   unfolding tile
   pixels-of-length t = pixels-length _ _ _ _ compression
 
 -- the marks of the first t tiles are counted
-pub record Counting (f : List ℕ) (r : Row) (compression : ℕ) (scratch : List ℕ) (t marked : ℕ) : Type 0 where
+pub record Counting (size : ℕ) (f : List ℕ) (r : Row) (compression : ℕ) (scratch : List ℕ) (t marked : ℕ) : Type 0 where
   pub inside : t ≤ r .count
-  pub count : marked ≡ nonzero (tabulate t 0 (markOf f r compression))
-  pub size : length scratch ≡ 16384
+  pub count : marked ≡ nonzero (tabulate t 0 (markOf size f r compression))
+  pub room : length scratch ≡ 16384
 
 -- the pixels of the first t tiles are shown, and their marks set
-pub record Going (f : List ℕ) (r : Row) (compression : ℕ) (pixels marks scratch : List ℕ) (t marked : ℕ) : Type 0 where
-  pub counting : Counting f r compression scratch t marked
-  pub shown : Shown (pixelsAt f r compression) r pixels t
+pub record Going (size : ℕ) (f : List ℕ) (r : Row) (compression : ℕ) (pixels marks scratch : List ℕ) (t marked : ℕ) : Type 0 where
+  pub counting : Counting size f r compression scratch t marked
+  pub shown : Shown (pixelsAt size f r compression) r pixels t
   pub marksSize : length marks ≡ r .count
-  pub marksSet : take t marks ≡ tabulate t 0 (markOf f r compression)
+  pub marksSet : take t marks ≡ tabulate t 0 (markOf size f r compression)
 
-pub counting-start : {f : List ℕ} {r : Row} {compression : ℕ} {scratch : List ℕ} → length scratch ≡ 16384 → Counting f r compression scratch 0 0
+pub counting-start : {size : ℕ} {f : List ℕ} {r : Row} {compression : ℕ} {scratch : List ℕ} → length scratch ≡ 16384 → Counting size f r compression scratch 0 0
 unfolding tabulate nonzero
-counting-start size = record { inside = omega arith; count = refl; size = size }
+counting-start room = record { inside = omega arith; count = refl; room = room }
 
-pub going-start : {f : List ℕ} {r : Row} {compression : ℕ} {pixels marks scratch : List ℕ} → length pixels ≡ r .width * r .height * r .depth
-    → length marks ≡ r .count → length scratch ≡ 16384 → Going f r compression pixels marks scratch 0 0
+pub going-start : {size : ℕ} {f : List ℕ} {r : Row} {compression : ℕ} {pixels marks scratch : List ℕ} → length pixels ≡ r .width * r .height * r .depth
+    → length marks ≡ r .count → length scratch ≡ 16384 → Going size f r compression pixels marks scratch 0 0
 unfolding tabulate
 going-start pixels marks scratch = record { counting = counting-start scratch; shown = shown-none pixels; marksSize = marks; marksSet = refl }
 
-module _ {f : List ℕ} {r : Row} {compression : ℕ} {scratch : List ℕ} {t marked : ℕ} (g : Counting f r compression scratch t marked) where
+module _ {size : ℕ} {f : List ℕ} {r : Row} {compression : ℕ} {scratch : List ℕ} {t marked : ℕ} (g : Counting size f r compression scratch t marked) where
   -- the next tile's mark counts where it is not zero
-  module _ (less : t < r .count) {m : ℕ} {new : List ℕ} (one : Scratched (tile pointerSize f r compression t) m scratch new) where
-    pub counting-good : m ≡ 0 → Counting f r compression new (t + 1) marked
+  module _ (less : t < r .count) {m : ℕ} {new : List ℕ} (one : Scratched (tile size f r compression t) m scratch new) where
+    pub counting-good : m ≡ 0 → Counting size f r compression new (t + 1) marked
     counting-good good = record {
       inside = omega (arith, less);
-      count = g .count ∙ sym (nonzero-next-good t (markOf f r compression) (sym (one .mark) ∙ good));
-      size = one .size ∙ g .size;
+      count = g .count ∙ sym (nonzero-next-good t (markOf size f r compression) (sym (one .mark) ∙ good));
+      room = one .size ∙ g .room;
     }
 
-    pub counting-bad : (m ≡ 0 → ⊥) → Counting f r compression new (t + 1) (marked + 1)
+    pub counting-bad : (m ≡ 0 → ⊥) → Counting size f r compression new (t + 1) (marked + 1)
     counting-bad bad = record {
       inside = omega (arith, less);
-      count = ap (λ n. n + 1) (g .count) ∙ sym (nonzero-next-bad t (markOf f r compression) (λ z. bad (one .mark ∙ z)));
-      size = one .size ∙ g .size;
+      count = ap (λ n. n + 1) (g .count) ∙ sym (nonzero-next-bad t (markOf size f r compression) (λ z. bad (one .mark ∙ z)));
+      room = one .size ∙ g .room;
     }
 
-  pub counting-over : r .count ≤ t → marked ≡ nonzero (marksOf pointerSize f r compression)
+  pub counting-over : r .count ≤ t → marked ≡ nonzero (marksOf size f r compression)
   unfolding marksOf
   counting-over over =
       let all : t ≡ r .count = omega (arith, over, g .inside) in
-      g .count ∙ ap (λ n. nonzero (tabulate n 0 (markOf f r compression))) all
+      g .count ∙ ap (λ n. nonzero (tabulate n 0 (markOf size f r compression))) all
 
-module _ {f : List ℕ} {r : Row} {compression : ℕ} (ready : Ready f r compression) where
+module _ {size : ℕ} {f : List ℕ} {r : Row} {compression : ℕ} (ready : Ready size f r compression) where
   few : r .count ≤ 65536
   few = rw (ready .usable .count) (few-tiles (r .width) (r .height) (ready .usable .wide .1) (ready .usable .high .1))
 
-  pub counting-few : {scratch : List ℕ} {t marked : ℕ} → Counting f r compression scratch t marked → (marked ≤ t) × (t ≤ 65536)
-  counting-few {t = t} g = (rw (g .count) (nonzero-below t (markOf f r compression)), omega (arith, g .inside, few))
+  pub counting-few : {scratch : List ℕ} {t marked : ℕ} → Counting size f r compression scratch t marked → (marked ≤ t) × (t ≤ 65536)
+  counting-few {t = t} g = (rw (g .count) (nonzero-below t (markOf size f r compression)), omega (arith, g .inside, few))
 
-  module _ {pixels marks scratch : List ℕ} {t marked : ℕ} (g : Going f r compression pixels marks scratch t marked) where
+  module _ {pixels marks scratch : List ℕ} {t marked : ℕ} (g : Going size f r compression pixels marks scratch t marked) where
     pub tile-placeable : t < r .count → (n : ℕ) → n ≡ 16384 → Placeable r (frameOf r t) n (length pixels)
-    tile-placeable less n size = record {
+    tile-placeable less n room = record {
       framed =
-          tile-framed (ready .usable .wide .0) (omega (arith, less, ready .usable .count)) (omega (arith, size, pixels-small ready less refl .1)) (g .shown .size);
+          tile-framed (ready .usable .wide .0) (omega (arith, less, ready .usable .count)) (omega (arith, room, pixels-small ready less refl .1)) (g .shown .size);
       wide = ready .usable .wide .1;
       high = ready .usable .high .1;
       deep = ready .usable .deep .1;
     }
 
-    pub going-next : t < r .count → {m : ℕ} {new : List ℕ} → Scratched (tile pointerSize f r compression t) m scratch new → {count : ℕ}
-        → Counting f r compression new (t + 1) count
-        → Going f r compression (putFrame pixels (r .width) (r .depth) (frameOf r t) new) (set marks t m) new (t + 1) count
+    pub going-next : t < r .count → {m : ℕ} {new : List ℕ} → Scratched (tile size f r compression t) m scratch new → {count : ℕ}
+        → Counting size f r compression new (t + 1) count
+        → Going size f r compression (putFrame pixels (r .width) (r .depth) (frameOf r t) new) (set marks t m) new (t + 1) count
     going-next less {m} {new} one next = record {
       counting = next;
-      shown = shown-next new (g .shown) (ready .usable .wide .0) (omega (arith, less, ready .usable .count)) (pixels-of-length f r compression t) (scratch-pixels one);
+      shown = shown-next new (g .shown) (ready .usable .wide .0) (omega (arith, less, ready .usable .count)) (pixels-of-length size f r compression t) (scratch-pixels one);
       marksSize = length-set marks t m ∙ g .marksSize;
       marksSet =
-          rw (add-one, tabulate-more t 0 (markOf f r compression), zero-add, take-suc-set marks t m (omega (arith, less, g .marksSize)), g .marksSet, one .mark);
+          rw (add-one, tabulate-more t 0 (markOf size f r compression), zero-add, take-suc-set marks t m (omega (arith, less, g .marksSize)), g .marksSet, one .mark);
     }
 
     module _ (over : r .count ≤ t) where
       all : t ≡ r .count
       all = omega (arith, over, g .counting .inside)
 
-      pub going-counted : marked ≡ rowDecoding pointerSize f r compression .answer .marked
+      pub going-counted : marked ≡ rowDecoding size f r compression .answer .marked
       unfolding rowDecoding
       going-counted = counting-over (g .counting) over
 
-      pub going-shown : pixels ≡ rowDecoding pointerSize f r compression .pixels
+      pub going-shown : pixels ≡ rowDecoding size f r compression .pixels
       unfolding rowDecoding
-      going-shown = shown-all (subst (Shown (pixelsAt f r compression) r pixels) (all ∙ ready .usable .count) (g .shown)) (ready .usable .wide .0) (ready .usable .deep .0)
+      going-shown = shown-all (subst (Shown (pixelsAt size f r compression) r pixels) (all ∙ ready .usable .count) (g .shown)) (ready .usable .wide .0) (ready .usable .deep .0)
 
-      pub going-marked : marks ≡ rowDecoding pointerSize f r compression .marks
+      pub going-marked : marks ≡ rowDecoding size f r compression .marks
       unfolding rowDecoding marksOf
-      going-marked = sym (take-all t marks (omega (arith, all, g .marksSize))) ∙ g .marksSet ∙ ap (λ n. tabulate n 0 (markOf f r compression)) all
+      going-marked = sym (take-all t marks (omega (arith, all, g .marksSize))) ∙ g .marksSet ∙ ap (λ n. tabulate n 0 (markOf size f r compression)) all

@@ -1,5 +1,5 @@
--- A row that is not refused has its numbers in range (`row-usable`); where its tile pointers are not refused either, it is ready
--- (`row-ready`), since a walk's refusals have listed numbers. Buffers that fit have the row's lengths
+-- A row that is not refused has its numbers in range (`row-usable`); where nothing of the drawable is refused, it is ready and the
+-- buffers fit (`drawable-ready`), since a walk's refusals have listed numbers. Buffers that fit have the row's lengths
 -- (`fit-lengths`).
 -- Assumes nothing.
 use Prim.Native.Nat.{ℕ, zero, suc, _*_}
@@ -7,19 +7,21 @@ use mathlib.Core.Path.{_≡_, refl}
 use mathlib.Core.List.{List}
 use mathlib.Core.Bool.{Bool, true, false, cond, and-eq-true-iff, false≢true}
 use native.Mathlib.Omega.{arith}
-use borrow.Author.Tests.{leb-true, eqb-true}
+use borrow.Author.Tests.{leb-true, eqb-true, ne-eqb}
 use lib.Dec.{leb, eqb}
+use lib.ListN.{length}
 use Rattle.xcf_walk.specs.Walk.{Outcome, got, refused, run}
 use Rattle.xcf_table.specs.declared.Row.{Row}
 use Rattle.xcf_table.specs.Table.{tableSize, fileLimit}
 use Rattle.xcf_grid.specs.Grid.{tileCount}
 use Rattle.xcf_range.specs.Range.{within}
 use Rattle.xcf_range.proofs.Bounds.{within-bounds}
-use Rattle.xcf_parse.specs.Hierarchy.{pointerSize, tiles}
+use Rattle.xcf_parse.specs.Hierarchy.{tiles}
+use Rattle.xcf_store.specs.Pointer.{pointerSize, pointerSizeOk, PointerSize}
 use Rattle.xcf_read.specs.Answer.{refusals, listed}
 use Rattle.xcf_read_laws.proofs.Numbers.{numbered-tiles}
 use Rattle.xcf_window.specs.Usable.{inRange, inFile, usableRow, fits, rowRefusal}
-use Rattle.xcf_decode.specs.Answer.{pointersRefusal}
+use Rattle.xcf_decode.specs.Answer.{refusal, pointersRefusal, drawableRefusal}
 use Rattle.xcf_window.specs.Parts.{Usable, Ready}
 
 -- a choice that is 0 where its other branch is not
@@ -27,24 +29,27 @@ cond-zero : (b : Bool) (x y : ℕ) → (y ≡ 0 → ⊥) → cond b x y ≡ 0 �
 cond-zero true x y other e = (refl, e)
 cond-zero false x y other e = absurd (other e)
 
-pub row-usable : (size n : ℕ) (r : Row) (compression : ℕ) → rowRefusal pointerSize size n r compression ≡ 0 → Usable r compression
+pub row-usable : (size fileLength n : ℕ) (r : Row) (compression : ℕ) → rowRefusal size fileLength n r compression ≡ 0 → PointerSize size × Usable r compression
 unfolding rowRefusal usableRow inRange inFile
-row-usable size n r compression e =
+row-usable size fileLength n r compression e =
     let table = cond-zero (eqb n tableSize) _ 11 (λ z. omega (arith, z)) e in
-    let file = cond-zero (leb size fileLimit) _ 15 (λ z. omega (arith, z)) (table .1) in
-    let row = and-eq-true-iff (inRange r) _ .0 (cond-zero (usableRow pointerSize size r compression) _ 14 (λ z. omega (arith, z)) (file .1) .0) in
+    let file = cond-zero (leb fileLength fileLimit) _ 15 (λ z. omega (arith, z)) (table .1) in
+    let usable = and-eq-true-iff (pointerSizeOk size) _ .0 (cond-zero (usableRow size fileLength r compression) _ 14 (λ z. omega (arith, z)) (file .1) .0) in
+    let row = and-eq-true-iff (inRange r) _ .0 (usable .1) in
     let range = and-eq-true-iff (within 1 3 (r .kind)) _ .0 (row .0) in
     let sides = and-eq-true-iff (within 1 16384 (r .width)) _ .0 (range .1) in
     let more = and-eq-true-iff (within 1 16384 (r .height)) _ .0 (sides .1) in
-    let inside = and-eq-true-iff (inFile pointerSize size r) _ .0 (row .1) in
-    let count = and-eq-true-iff (eqb (r .count) (tileCount (r .width) (r .height))) _ .0 (inside .0) in
-    record {
-      wide = within-bounds 1 16384 (r .width) (sides .0);
-      high = within-bounds 1 16384 (r .height) (more .0);
-      deep = within-bounds 1 4 (r .depth) (more .1);
-      count = eqb-true (r .count) _ (count .0);
-      way = leb-true compression 1 (inside .1);
-    }
+    let inside = and-eq-true-iff (inFile size fileLength r) _ .0 (row .1) in
+    let count = and-eq-true-iff (eqb (r .count) (tileCount (r .width) (r .height))) _ .0 (inside .0) in (
+      eqb-true size pointerSize (usable .0),
+      record {
+        wide = within-bounds 1 16384 (r .width) (sides .0);
+        high = within-bounds 1 16384 (r .height) (more .0);
+        deep = within-bounds 1 4 (r .depth) (more .1);
+        count = eqb-true (r .count) _ (count .0);
+        way = leb-true compression 1 (inside .1);
+      },
+    )
 
 -- a listed number is not 0
 pointers-taken : (x : Outcome (Unit {0})) → ((n p : ℕ) → refused n p ≡ x → listed refusals n ≡ true) → pointersRefusal x .number ≡ 0 → (q : ℕ) × (got tt q ≡ x)
@@ -53,10 +58,20 @@ pointers-taken (got u q) number z = (q, refl)
 pointers-taken (refused zero p) number z = absurd (false≢true (number zero p refl))
 pointers-taken (refused (suc n) p) number z = absurd (omega (arith, z))
 
-pub row-ready : {f : List ℕ} {r : Row} {compression : ℕ} → Usable r compression → pointersRefusal (run (tiles pointerSize (r .count) 0) f (r .tiles)) .number ≡ 0 → Ready f r compression
-row-ready {f} {r} u z =
-    let end = pointers-taken (run (tiles pointerSize (r .count) 0) f (r .tiles)) (λ n p e. numbered-tiles pointerSize (r .count) 0 .number f (r .tiles) e) z in
-    record { usable = u; end = end .0; pointers = end .1 }
+pub drawable-ready : (size : ℕ) (f : List ℕ) (n : ℕ) (r : Row) (compression : ℕ) (fit : Bool)
+    → drawableRefusal size f n r compression fit .number ≡ 0 → Ready size f r compression × (fit ≡ true)
+unfolding drawableRefusal
+drawable-ready size f n r compression fit = go (rowRefusal size (length f) n r compression) refl fit
+  where
+    go : (m : ℕ) → rowRefusal size (length f) n r compression ≡ m → (b : Bool)
+        → cond (eqb m 0) (cond b (pointersRefusal (run (tiles size (r .count) 0) f (r .tiles))) (refusal 11 0)) (refusal m 0) .number ≡ 0
+        → Ready size f r compression × (b ≡ true)
+    go (suc m) e b z = absurd (let h : suc m ≡ 0 = rw (ne-eqb (suc m) 0 (λ h. omega (arith, h))) at z in omega (arith, h))
+    go zero e false z = absurd (omega (arith, z))
+    go zero e true z =
+        let usable = row-usable size (length f) n r compression e in
+        let end = pointers-taken (run (tiles size (r .count) 0) f (r .tiles)) (λ n p e. numbered-tiles size (r .count) 0 .number f (r .tiles) e) z in
+        (record { sized = usable .0; usable = usable .1; end = end .0; pointers = end .1 }, refl)
 
 pub fit-lengths : (r : Row) (pixels marks : ℕ) → fits r pixels marks ≡ true → (pixels ≡ r .width * r .height * r .depth) × (marks ≡ r .count)
 unfolding fits

@@ -9,8 +9,10 @@ use lib.Dec.{eqb}
 use Rattle.xcf_walk.specs.Walk.{Outcome, got, refused, run}
 use Rattle.xcf_table.specs.declared.Row.{Row}
 use Rattle.xcf_table.specs.Table.{rowAt}
-use Rattle.xcf_parse.specs.Hierarchy.{pointerSize, tiles}
+use Rattle.xcf_parse.specs.Hierarchy.{tiles}
 use Rattle.xcf_decode.specs.declared.DecodeAnswer.{DecodeAnswer}
+use Rattle.xcf_decode.specs.declared.check.Lent.{Lent}
+use Rattle.xcf_decode.specs.declared.check.Lent.the-variants.{Nothing, Buffers}
 use Rattle.xcf_window.specs.Window.{tile}
 use Rattle.xcf_grid.specs.Pixels.{tabulate, pixelsOf}
 use Rattle.xcf_window.specs.Usable.{fits, rowRefusal}
@@ -22,6 +24,11 @@ refusal n p = record { number = n; place = p; marked = 0 }
 abbrev pub pointersRefusal : Outcome (Unit {0}) → DecodeAnswer
 pointersRefusal (got u q) = refusal 0 0
 pointersRefusal (refused n p) = refusal n p
+
+-- the lent pixels and marks fit a row; where none are lent, nothing has to
+abbrev pub lentFits : Row → Lent → Bool
+lentFits r Nothing = true
+lentFits r (Buffers pixels marks) = fits r pixels marks
 
 -- then 11 where the lent pixels or marks do not fit, then 13
 unfoldable pub drawableRefusal : ℕ → List ℕ → ℕ → Row → ℕ → Bool → DecodeAnswer
@@ -55,25 +62,25 @@ rowDecoding size file r compression = record {
 }
 
 -- a refusal leaves pixels and marks as lent
-unfoldable pub decoding : List ℕ → List ℕ → ℕ → ℕ → List ℕ → List ℕ → Decoding
-decoding file table k compression pixels marks =
+unfoldable pub decoding : ℕ → List ℕ → List ℕ → ℕ → ℕ → List ℕ → List ℕ → Decoding
+decoding size file table k compression pixels marks =
     let r = rowAt table k in
-    let answer = drawableRefusal pointerSize file (length table) r compression (fits r (length pixels) (length marks)) in
-    cond (eqb (answer .number) 0) (rowDecoding pointerSize file r compression) (record { answer = answer; pixels = pixels; marks = marks })
+    let answer = drawableRefusal size file (length table) r compression (fits r (length pixels) (length marks)) in
+    cond (eqb (answer .number) 0) (rowDecoding size file r compression) (record { answer = answer; pixels = pixels; marks = marks })
 
 -- the numbers that it answers
 abbrev pub decoderNumbers : List ℕ
 decoderNumbers = 0 ∷ 11 ∷ 13 ∷ 14 ∷ 15 ∷ []
 
 -- the same answer with nothing lent for pixels and marks
-unfoldable pub counting : List ℕ → List ℕ → ℕ → ℕ → DecodeAnswer
-counting file table k compression =
+unfoldable pub counting : ℕ → List ℕ → List ℕ → ℕ → ℕ → DecodeAnswer
+counting size file table k compression =
     let r = rowAt table k in
-    let answer = drawableRefusal pointerSize file (length table) r compression true in
-    cond (eqb (answer .number) 0) (counted (marksOf pointerSize file r compression)) answer
+    let answer = drawableRefusal size file (length table) r compression true in
+    cond (eqb (answer .number) 0) (counted (marksOf size file r compression)) answer
 
 -- the decoder's promise: its answer r, and the new content of the buffers
-pub record DrawableDecoded (file table : List ℕ) (k compression : ℕ) (oldPixels oldMarks : List ℕ) (r : DecodeAnswer) (newPixels newMarks : List ℕ) : Type 0 where
-  pub answer : r ≡ decoding file table k compression oldPixels oldMarks .answer
-  pub pixels : newPixels ≡ decoding file table k compression oldPixels oldMarks .pixels
-  pub marks : newMarks ≡ decoding file table k compression oldPixels oldMarks .marks
+pub record DrawableDecoded (size : ℕ) (file table : List ℕ) (k compression : ℕ) (oldPixels oldMarks : List ℕ) (r : DecodeAnswer) (newPixels newMarks : List ℕ) : Type 0 where
+  pub answer : r ≡ decoding size file table k compression oldPixels oldMarks .answer
+  pub pixels : newPixels ≡ decoding size file table k compression oldPixels oldMarks .pixels
+  pub marks : newMarks ≡ decoding size file table k compression oldPixels oldMarks .marks

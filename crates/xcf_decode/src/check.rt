@@ -1,21 +1,63 @@
-// What is refused once the row is usable and the buffers fit.
+// What is refused before a drawable is decoded or counted.
 ghost use mathlib.Core.Path.{_≡_};
+ghost use Prim.Native.Nat.{_≤_};
+ghost use Rattle.xcf_store.specs.Pointer.{PointerSize};
 ghost use Rattle.xcf_walk.specs.Walk.{run};
-ghost use Rattle.xcf_parse.specs.Hierarchy.{pointerSize, tiles};
-ghost use Rattle.xcf_decode.specs.Answer.{pointersRefusal};
+ghost use Rattle.xcf_parse.specs.Hierarchy.{tiles};
+ghost use Rattle.xcf_decode.specs.Answer.{pointersRefusal, lentFits, drawableRefusal};
 use crate::DecodeAnswer;
 use crate::refusal;
 use xcf_parse::hierarchy::tiles;
 use xcf_table::Row;
 use xcf_walk::cursor::start;
+use xcf_window::check::fits;
+use xcf_window::check::row_refusal;
+
+// The lengths of the buffers lent for pixels and marks, or nothing where none are.
+pub enum Lent {
+    Nothing,
+    Buffers { pixels: usize, marks: usize },
+}
+
+fn fits_lent(row: Row, lent: Lent) -> bool
+    requires { ⌜ (row .width ≤ 16384) × (row .height ≤ 16384) × (row .depth ≤ 4) ⌝ }
+    ensures { λ r. ⌜ r ≡ lentFits row lent ⌝ }
+{
+    match lent {
+        Lent::Nothing => true,
+        Lent::Buffers { pixels, marks } => fits(row, pixels, marks),
+    }
+}
 
 // 13 at the lowest bad word of the row's tile pointers, or number 0.
-pub(crate) fn pointers_refusal(file: &[u8], row: Row) -> DecodeAnswer
-    ensures { λ r. ⌜ r ≡ pointersRefusal (run (tiles pointerSize (row .count) 0) (now (file .entry)) (row .tiles)) ⌝ }
+fn pointers_refusal(file: &[u8], row: Row, size: usize) -> DecodeAnswer
+    requires { ⌜ PointerSize size ⌝ }
+    ensures { λ r. ⌜ r ≡ pointersRefusal (run (tiles size (row .count) 0) (now (file .entry)) (row .tiles)) ⌝ }
 {
-    let end = tiles(start(row.tiles as usize), file, row.count);
+    let end = tiles(start(row.tiles as usize), file, size, row.count);
     if end.number != 0 {
         return refusal(end.number as u64, end.at as u64);
     }
     refusal(0, 0)
+}
+
+// The refusal of a row from a table of so many numbers, or number 0.
+pub(crate) fn drawable_refusal(
+    file: &[u8],
+    numbers: usize,
+    row: Row,
+    compression: u32,
+    size: usize,
+    lent: Lent,
+) -> DecodeAnswer
+    ensures { λ r. ⌜ r ≡ drawableRefusal size (now (file .entry)) numbers row compression (lentFits row lent) ⌝ }
+{
+    let refused = row_refusal(file, numbers, row, compression, size);
+    if refused != 0 {
+        return refusal(refused, 0);
+    }
+    if fits_lent(row, lent) {
+        return pointers_refusal(file, row, size);
+    }
+    refusal(11, 0)
 }

@@ -2,7 +2,6 @@
 ghost use mathlib.Core.Path.{_≡_};
 ghost use Prim.Native.Nat.{_*_};
 ghost use lib.ListN.{length};
-ghost use Rattle.xcf_parse.specs.Hierarchy.{pointerSize};
 ghost use Rattle.xcf_decode.specs.Answer.{rowDecoding};
 ghost use Rattle.xcf_window.specs.Parts.{Ready};
 use xcf_grid::frame::TILE_SIZE;
@@ -16,21 +15,22 @@ fn decode_tiles(
     file: &[u8],
     row: Row,
     compression: u32,
+    size: usize,
     pixels: &mut [u8],
     marks: &mut [u8],
     scratch: &mut [u8],
 ) -> u64
-    requires { ⌜ Ready (now file) row compression ⌝ }
+    requires { ⌜ Ready size (now file) row compression ⌝ }
     requires { ⌜ (length (now pixels) ≡ row .width * row .height * row .depth) × (length (now marks) ≡ row .count) × (length (now scratch) ≡ 16384) ⌝ }
-    ensures { λ r. ⌜ r ≡ rowDecoding pointerSize (now (file .entry)) row compression .answer .marked ⌝ }
-    ensures { λ _. ⌜ now (pixels .exit) ≡ rowDecoding pointerSize (now (file .entry)) row compression .pixels ⌝ }
-    ensures { λ _. ⌜ now (marks .exit) ≡ rowDecoding pointerSize (now (file .entry)) row compression .marks ⌝ }
+    ensures { λ r. ⌜ r ≡ rowDecoding size (now (file .entry)) row compression .answer .marked ⌝ }
+    ensures { λ _. ⌜ now (pixels .exit) ≡ rowDecoding size (now (file .entry)) row compression .pixels ⌝ }
+    ensures { λ _. ⌜ now (marks .exit) ≡ rowDecoding size (now (file .entry)) row compression .marks ⌝ }
 {
     let mut t: u32 = 0;
     let mut marked: u64 = 0;
     while t < row.count {
         let frame = frame_of(row, t);
-        let mark = decode_one(file, row, compression, t, frame, scratch);
+        let mark = decode_one(file, row, compression, size, t, frame, scratch);
         put_tile(row, frame, scratch, pixels);
         marks[t as usize] = mark;
         if mark != 0 {
@@ -45,15 +45,16 @@ pub(crate) fn decode_row(
     file: &[u8],
     row: Row,
     compression: u32,
+    size: usize,
     pixels: &mut [u8],
     marks: &mut [u8],
 ) -> u64
-    requires { ⌜ Ready (now file) row compression ⌝ }
+    requires { ⌜ Ready size (now file) row compression ⌝ }
     requires { ⌜ (length (now pixels) ≡ row .width * row .height * row .depth) × (length (now marks) ≡ row .count) ⌝ }
-    ensures { λ r. ⌜ r ≡ rowDecoding pointerSize (now (file .entry)) row compression .answer .marked ⌝ }
-    ensures { λ _. ⌜ now (pixels .exit) ≡ rowDecoding pointerSize (now (file .entry)) row compression .pixels ⌝ }
-    ensures { λ _. ⌜ now (marks .exit) ≡ rowDecoding pointerSize (now (file .entry)) row compression .marks ⌝ }
+    ensures { λ r. ⌜ r ≡ rowDecoding size (now (file .entry)) row compression .answer .marked ⌝ }
+    ensures { λ _. ⌜ now (pixels .exit) ≡ rowDecoding size (now (file .entry)) row compression .pixels ⌝ }
+    ensures { λ _. ⌜ now (marks .exit) ≡ rowDecoding size (now (file .entry)) row compression .marks ⌝ }
 {
     let mut scratch = [0u8; TILE_SIZE];
-    decode_tiles(file, row, compression, pixels, marks, &mut scratch)
+    decode_tiles(file, row, compression, size, pixels, marks, &mut scratch)
 }

@@ -7,7 +7,6 @@ use mathlib.Core.List.{List}
 use lib.Dec.{eqb}
 use lib.ListN.{length}
 use Rattle.xcf_table.specs.Table.{rowAt}
-use Rattle.xcf_parse.specs.Hierarchy.{pointerSize}
 use Rattle.xcf_window.specs.Usable.{fits}
 use Rattle.xcf_decode.specs.Answer.{drawableRefusal, Decoding, rowDecoding, decoding, counting}
 
@@ -15,8 +14,8 @@ answer-of : (b : Bool) (x y : Decoding) → cond b (x .answer) (y .answer) ≡ c
 answer-of true x y = refl
 answer-of false x y = refl
 
-pub count-decoded : (file table : List ℕ) (k compression : ℕ) (pixels marks : List ℕ) → fits (rowAt table k) (length pixels) (length marks) ≡ true
-    → counting file table k compression ≡ decoding file table k compression pixels marks .answer
+pub count-decoded : (size : ℕ) (file table : List ℕ) (k compression : ℕ) (pixels marks : List ℕ) → fits (rowAt table k) (length pixels) (length marks) ≡ true
+    → counting size file table k compression ≡ decoding size file table k compression pixels marks .answer
 unfolding decoding counting rowDecoding
-count-decoded file table k compression pixels marks fit =
-    rw fit (answer-of (eqb (drawableRefusal pointerSize file (length table) (rowAt table k) compression true .number) 0) (rowDecoding pointerSize file (rowAt table k) compression) _)
+count-decoded size file table k compression pixels marks fit =
+    rw fit (answer-of (eqb (drawableRefusal size file (length table) (rowAt table k) compression true .number) 0) (rowDecoding size file (rowAt table k) compression) _)

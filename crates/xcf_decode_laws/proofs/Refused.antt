@@ -18,7 +18,8 @@ use Rattle.xcf_table.specs.declared.Row.{Row}
 use Rattle.xcf_table.specs.Table.{tableSize, rowAt, fileLimit}
 use Rattle.xcf_grid.specs.Grid.{tileCount}
 use Rattle.xcf_laws.proofs.Cases.{by-cases}
-use Rattle.xcf_parse.specs.Hierarchy.{pointerSize, tiles}
+use Rattle.xcf_parse.specs.Hierarchy.{tiles}
+use Rattle.xcf_store.specs.Pointer.{pointerSizeOk}
 use Rattle.xcf_read.specs.Answer.{listed}
 use Rattle.xcf_decode.specs.declared.DecodeAnswer.{DecodeAnswer}
 use Rattle.xcf_window.specs.Usable.{inRange, inFile, usableRow, fits, rowRefusal}
@@ -54,12 +55,12 @@ module _ (size : ℕ) (f : List ℕ) where
 abbrev Listed : DecodeAnswer → Type 0
 Listed a = listed decoderNumbers (a .number) ≡ true
 
-module _ (f : List ℕ) (n : ℕ) (r : Row) (compression : ℕ) where
-  pointers-inside : usableRow pointerSize (length f) r compression ≡ true → r .tiles + pointerSize * (r .count + 1) ≤ length f
+module _ (size : ℕ) (f : List ℕ) (n : ℕ) (r : Row) (compression : ℕ) where
+  pointers-inside : usableRow size (length f) r compression ≡ true → r .tiles + size * (r .count + 1) ≤ length f
   unfolding usableRow inFile
   pointers-inside e =
-      let row = and-eq-true-iff (inRange r) _ .0 e in
-      let file = and-eq-true-iff (inFile pointerSize (length f) r) _ .0 (row .1) in
+      let row = and-eq-true-iff (inRange r) _ .0 (and-eq-true-iff (pointerSizeOk size) _ .0 e .1) in
+      let file = and-eq-true-iff (inFile size (length f) r) _ .0 (row .1) in
       leb-true _ _ (and-eq-true-iff (eqb (r .count) (tileCount (r .width) (r .height))) _ .0 (file .0) .1)
 
   outcome-listed : (x : Outcome (Unit {0})) → ((m p : ℕ) → refused m p ≡ x → m ≡ 13) → Listed (pointersRefusal x)
@@ -67,29 +68,29 @@ module _ (f : List ℕ) (n : ℕ) (r : Row) (compression : ℕ) where
   outcome-listed (got u q) h = refl
   outcome-listed (refused m p) h = rw (h m p refl)
 
-  pointers-listed : usableRow pointerSize (length f) r compression ≡ true → Listed (pointersRefusal (run (tiles pointerSize (r .count) 0) f (r .tiles)))
-  pointers-listed e = outcome-listed _ (λ m p x. pointers-13 pointerSize f (r .count) 0 (r .tiles) (pointers-inside e) x)
+  pointers-listed : usableRow size (length f) r compression ≡ true → Listed (pointersRefusal (run (tiles size (r .count) 0) f (r .tiles)))
+  pointers-listed e = outcome-listed _ (λ m p x. pointers-13 size f (r .count) 0 (r .tiles) (pointers-inside e) x)
 
-  drawable-listed : (fit : Bool) → Listed (drawableRefusal pointerSize f n r compression fit)
+  drawable-listed : (fit : Bool) → Listed (drawableRefusal size f n r compression fit)
   unfolding drawableRefusal rowRefusal listed
-  drawable-listed fit = go (eqb n tableSize) (leb (length f) fileLimit) (usableRow pointerSize (length f) r compression) refl fit
+  drawable-listed fit = go (eqb n tableSize) (leb (length f) fileLimit) (usableRow size (length f) r compression) refl fit
     where
       refusalAt : Bool → Bool → Bool → ℕ
       refusalAt a b c = cond a (cond b (cond c 0 14) 15) 11
 
-      go : (a b c : Bool) → usableRow pointerSize (length f) r compression ≡ c → (fit : Bool)
-          → Listed (cond (eqb (refusalAt a b c) 0) (cond fit (pointersRefusal (run (tiles pointerSize (r .count) 0) f (r .tiles))) (refusal 11 0)) (refusal (refusalAt a b c) 0))
+      go : (a b c : Bool) → usableRow size (length f) r compression ≡ c → (fit : Bool)
+          → Listed (cond (eqb (refusalAt a b c) 0) (cond fit (pointersRefusal (run (tiles size (r .count) 0) f (r .tiles))) (refusal 11 0)) (refusal (refusalAt a b c) 0))
       go true true true e true = pointers-listed e
       go true true true e false = refl
       go true true false e fit = refl
       go true false c e fit = refl
       go false b c e fit = refl
 
-pub decoder-listed : (file table : List ℕ) (k compression : ℕ) (pixels marks : List ℕ) → listed decoderNumbers (decoding file table k compression pixels marks .answer .number) ≡ true
+pub decoder-listed : (size : ℕ) (file table : List ℕ) (k compression : ℕ) (pixels marks : List ℕ) → listed decoderNumbers (decoding size file table k compression pixels marks .answer .number) ≡ true
 unfolding decoding rowDecoding listed
-decoder-listed file table k compression pixels marks =
+decoder-listed size file table k compression pixels marks =
     let r = rowAt table k in
-    let answer = drawableRefusal pointerSize file (length table) r compression (fits r (length pixels) (length marks)) in
-    by-cases (λ (d : Decoding). Listed (d .answer)) (eqb (answer .number) 0) (rowDecoding pointerSize file r compression)
+    let answer = drawableRefusal size file (length table) r compression (fits r (length pixels) (length marks)) in
+    by-cases (λ (d : Decoding). Listed (d .answer)) (eqb (answer .number) 0) (rowDecoding size file r compression)
     (record { answer = answer; pixels = pixels; marks = marks }) (λ _. refl)
-    (λ _. drawable-listed file (length table) r compression (fits r (length pixels) (length marks)))
+    (λ _. drawable-listed size file (length table) r compression (fits r (length pixels) (length marks)))

@@ -1,7 +1,7 @@
 -- A drawable of an accepted file is decoded and not refused, given buffers that fit: its row passes every test of the decoder.
 -- Assumes nothing.
 use Prim.Native.Nat.{ℕ, _≤_, _<_}
-use mathlib.Core.Path.{_≡_}
+use mathlib.Core.Path.{_≡_, refl}
 use mathlib.Core.List.{List}
 use mathlib.Core.Bool.{true}
 use borrow.Author.Tests.{le-leb, eq-eqb}
@@ -9,7 +9,7 @@ use lib.ListN.{length}
 use Rattle.xcf_table.specs.declared.Row.{Row}
 use Rattle.xcf_table.specs.Table.{tableSize, fileLimit}
 use Rattle.xcf_range.proofs.Bounds.{bounds-within}
-use Rattle.xcf_parse.specs.Hierarchy.{pointerSize}
+use Rattle.xcf_store.specs.Pointer.{pointerSize, PointerSize}
 use Rattle.xcf_read.specs.Answer.{reading, rowOf}
 use Rattle.xcf_read_laws.proofs.AcceptedRows.{RowRead}
 use Rattle.xcf_window.specs.Usable.{inRange, inFile, usableRow, fits, rowRefusal}
@@ -18,34 +18,34 @@ use Rattle.xcf_window.proofs.TilePointers.{tiles-inside}
 use Rattle.xcf_read_laws.proofs.Accepts.{accepts}
 
 -- a row that was read passes the tests of a row
-module _ {f : List ℕ} {S : ℕ → Type 0} {r : Row} (row : RowRead f S r) where
+module _ {size : ℕ} {f : List ℕ} {S : ℕ → Type 0} {r : Row} (sized : PointerSize size) (row : RowRead size f S r) where
   in-range : inRange r ≡ true
   unfolding inRange
   in-range = rw (bounds-within _ _ _ (row .kind), bounds-within _ _ _ (row .width), bounds-within _ _ _ (row .height), bounds-within _ _ _ (row .depth))
 
-  in-file : inFile pointerSize (length f) r ≡ true
+  in-file : inFile size (length f) r ≡ true
   unfolding inFile
-  in-file = rw (eq-eqb _ _ (row .count), le-leb _ _ (tiles-inside pointerSize (r .count) 0 f (r .tiles) (row .tiles .pointers)))
+  in-file = rw (eq-eqb _ _ (row .count), le-leb _ _ (tiles-inside size (r .count) 0 f (r .tiles) (row .tiles .pointers)))
 
-  usable : (compression : ℕ) → compression ≤ 1 → usableRow pointerSize (length f) r compression ≡ true
+  usable : (compression : ℕ) → compression ≤ 1 → usableRow size (length f) r compression ≡ true
   unfolding usableRow
-  usable compression way = rw (in-range, in-file, le-leb _ _ way)
+  usable compression way = rw (eq-eqb _ _ sized, in-range, in-file, le-leb _ _ way)
 
   -- and is not refused for its file, its table or its pointers
-  module _ (table compression : ℕ) (small : length f ≤ fileLimit) (size : table ≡ tableSize) (way : compression ≤ 1) where
-    row-not-refused : rowRefusal pointerSize (length f) table r compression ≡ 0
+  module _ (table compression : ℕ) (small : length f ≤ fileLimit) (long : table ≡ tableSize) (way : compression ≤ 1) where
+    row-not-refused : rowRefusal size (length f) table r compression ≡ 0
     unfolding rowRefusal
-    row-not-refused = rw (eq-eqb _ _ size, le-leb _ _ small, usable compression way)
+    row-not-refused = rw (eq-eqb _ _ long, le-leb _ _ small, usable compression way)
 
-    decodable : drawableRefusal pointerSize f table r compression true ≡ refusal 0 0
+    decodable : drawableRefusal size f table r compression true ≡ refusal 0 0
     unfolding drawableRefusal
     decodable = rw (row-not-refused, ← row .tiles .pointers)
 
 pub row-decoded : (f lent : List ℕ) → reading f lent .answer .number ≡ 0 → (k : ℕ) → k < reading f lent .answer .rows → (pixels marks : List ℕ)
     → fits (rowOf (reading f lent) k) (length pixels) (length marks) ≡ true
-    → decoding f (reading f lent .table) k (reading f lent .answer .compression) pixels marks
+    → decoding pointerSize f (reading f lent .table) k (reading f lent .answer .compression) pixels marks
     ≡ rowDecoding pointerSize f (rowOf (reading f lent) k) (reading f lent .answer .compression)
 unfolding decoding
 row-decoded f lent accepted k below pixels marks fit =
     let a = accepts f lent accepted in
-    rw (fit, decodable (a .row k below) _ _ (a .small) (a .size) (a .way))
+    rw (fit, decodable refl (a .row k below) _ _ (a .small) (a .long) (a .way))

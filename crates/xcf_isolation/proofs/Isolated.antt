@@ -8,7 +8,7 @@ use mathlib.Core.List.{List}
 use native.Mathlib.Omega.{arith}
 use Rattle.xcf_table.specs.declared.Row.{Row}
 use Rattle.xcf_tile.specs.Tile.{Tile}
-use Rattle.xcf_parse.specs.Hierarchy.{pointerSize}
+use Rattle.xcf_store.specs.Pointer.{pointerSize}
 use Rattle.xcf_read.specs.Answer.{reading, rowOf}
 use Rattle.xcf_read_laws.proofs.AcceptedRows.{RowRead}
 use Rattle.xcf_window.specs.Window.{window, tile}
@@ -23,29 +23,29 @@ use Rattle.xcf_isolation.proofs.SameWindows.{window-same}
 use Rattle.xcf_decode_laws.proofs.TilesShown.{row-shows}
 
 -- the same window gives the same tile
-tile-same : (f g : List ℕ) (r : Row) (compression t : ℕ) → window pointerSize g r t ≡ window pointerSize f r t
-    → tile pointerSize g r compression t ≡ tile pointerSize f r compression t
+tile-same : (size : ℕ) (f g : List ℕ) (r : Row) (compression t : ℕ) → window size g r t ≡ window size f r t
+    → tile size g r compression t ≡ tile size f r compression t
 unfolding tile
-tile-same f g r compression t e = rw e
+tile-same size f g r compression t e = rw e
 
 -- a row whose tiles have the same window where they are not chosen
-row-isolated : {f : List ℕ} {S : ℕ → Type 0} {r : Row} (g : List ℕ) (compression : ℕ) (Chosen : ℕ → Type 0) → RowRead f S r
-    → ((t : ℕ) → t < r .count → (Chosen t → ⊥) → window pointerSize g r t ≡ window pointerSize f r t)
-    → RowIsolated g r compression Chosen (rowDecoding pointerSize f r compression) (rowDecoding pointerSize g r compression)
+row-isolated : (size : ℕ) {f : List ℕ} {S : ℕ → Type 0} {r : Row} (g : List ℕ) (compression : ℕ) (Chosen : ℕ → Type 0) → RowRead size f S r
+    → ((t : ℕ) → t < r .count → (Chosen t → ⊥) → window size g r t ≡ window size f r t)
+    → RowIsolated size g r compression Chosen (rowDecoding size f r compression) (rowDecoding size g r compression)
 unfolding rowDecoding tile
-row-isolated {f} {S} {r} g compression Chosen row windows =
-    let before = row-shows pointerSize f r compression (row .width .0) (row .depth .0) (row .count) in
-    let after = row-shows pointerSize g r compression (row .width .0) (row .depth .0) (row .count) in
+row-isolated size {f} {S} {r} g compression Chosen row windows =
+    let before = row-shows size f r compression (row .width .0) (row .depth .0) (row .count) in
+    let after = row-shows size g r compression (row .width .0) (row .depth .0) (row .count) in
     record {
       accepted = (refl, refl);
       same = λ t below free.
-          let e = tile-same f g r compression t (windows t below free) in
+          let e = tile-same size f g r compression t (windows t below free) in
           (after t below .0 ∙ ap (λ (x : Tile). x .mark) e ∙ sym (before t below .0), after t below .1 ∙ ap (λ (x : Tile). x .pixels) e ∙ sym (before t below .1));
       given = λ t below _. after t below;
       good = λ t below _. rw (after t below .0, after t below .1) (tile-good-when-valid _ _ _ _ _);
     }
 
-module _ (f g lent : List ℕ) (Chosen : ℕ → ℕ → Type 0) (accepted : reading f lent .answer .number ≡ 0) (damage : Damaged f g (reading f lent) Chosen) where
+module _ (f g lent : List ℕ) (Chosen : ℕ → ℕ → Type 0) (accepted : reading f lent .answer .number ≡ 0) (damage : Damaged pointerSize f g (reading f lent) Chosen) where
   -- the tile pointers of a row are structure bytes
   windows : (k : ℕ) → k < reading f lent .answer .rows → (t : ℕ) → t < rowOf (reading f lent) k .count → (Chosen k t → ⊥)
       → window pointerSize g (rowOf (reading f lent) k) t ≡ window pointerSize f (rowOf (reading f lent) k) t
@@ -53,7 +53,7 @@ module _ (f g lent : List ℕ) (Chosen : ℕ → ℕ → Type 0) (accepted : rea
       let r = rowOf (reading f lent) k in
       let read = accepts f lent accepted .row k row in
       let end = tiles-end pointerSize (r .count) 0 f (r .tiles) (read .tiles .pointers) in
-      window-same pointerSize f g r (damage .size) (λ i lo hi. structure-same damage i (read .tiles .passed i lo (omega (arith, end .0))))
+      window-same pointerSize f g r (damage .long) (λ i lo hi. structure-same damage i (read .tiles .passed i lo (omega (arith, end .0))))
       t below (window-byte-same damage k t (record { row = row; tile = below }) free)
 
 pub isolated : Isolation
@@ -64,5 +64,5 @@ isolated f g lent Chosen accepted damage =
       rows = λ k below pixels marks pixels' marks' fit fit'.
           let d = row-decoded f lent accepted k below pixels marks fit in
           let e = row-decoded g lent (rw same accepted) k (rw same below) pixels' marks' fit' in
-          rw (d, e, same) (row-isolated g _ (Chosen k) (accepts f lent accepted .row k below) (windows f g lent Chosen accepted damage k below));
+          rw (d, e, same) (row-isolated pointerSize g _ (Chosen k) (accepts f lent accepted .row k below) (windows f g lent Chosen accepted damage k below));
     }

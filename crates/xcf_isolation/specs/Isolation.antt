@@ -1,4 +1,4 @@
--- Demand 3: damage inside the windows of some tiles changes nothing outside them.
+-- Demand 3: damage inside the windows of some tiles changes nothing outside them. A pointer has `size` bytes.
 use Prim.Native.Nat.{ℕ, _*_, _≤_, _<_}
 use mathlib.Core.Path.{_≡_}
 use mathlib.Core.List.{List}
@@ -7,7 +7,7 @@ use lib.ListN.{length, getD, take, replicate}
 use Rattle.xcf_table.specs.declared.Row.{Row}
 use Rattle.xcf_grid.specs.Grid.{tileWidth, tileHeight}
 use Rattle.xcf_tile.specs.Tile.{tileOf}
-use Rattle.xcf_parse.specs.Hierarchy.{pointerSize}
+use Rattle.xcf_store.specs.Pointer.{pointerSize}
 use Rattle.xcf_read.specs.Image.{structureByte}
 use Rattle.xcf_read.specs.Answer.{Reading, reading, rowOf}
 use Rattle.xcf_window.specs.Window.{window, InWindow, tile}
@@ -40,32 +40,32 @@ pub record IsTile (x : Reading) (k t : ℕ) : Type 0 where
   pub tile : t < rowOf x k .count
 
 -- byte i lies in the window of a chosen tile
-pub record InChosen (f : List ℕ) (x : Reading) (Chosen : ℕ → ℕ → Type 0) (i : ℕ) : Type 0 where
+pub record InChosen (size : ℕ) (f : List ℕ) (x : Reading) (Chosen : ℕ → ℕ → Type 0) (i : ℕ) : Type 0 where
   pub k : ℕ
   pub t : ℕ
   pub is : IsTile x k t
   pub chosen : Chosen k t
-  pub inside : InWindow pointerSize f (rowOf x k) t i
+  pub inside : InWindow size f (rowOf x k) t i
 
 -- g has f's length, and differs from it only inside windows of chosen tiles, at bytes in no structure of f and in no window of a
 -- tile not chosen; x is what the reader gave for f
-pub record Damaged (f g : List ℕ) (x : Reading) (Chosen : ℕ → ℕ → Type 0) : Type 0 where
-  pub size : length f ≡ length g
-  pub inside : (i : ℕ) → (getD f i 0 ≡ getD g i 0 → ⊥) → InChosen f x Chosen i
-  pub structure : (i : ℕ) → (getD f i 0 ≡ getD g i 0 → ⊥) → structureByte f i → ⊥
-  pub others : (i : ℕ) → (getD f i 0 ≡ getD g i 0 → ⊥) → (k t : ℕ) → IsTile x k t → (Chosen k t → ⊥) → InWindow pointerSize f (rowOf x k) t i → ⊥
+pub record Damaged (size : ℕ) (f g : List ℕ) (x : Reading) (Chosen : ℕ → ℕ → Type 0) : Type 0 where
+  pub long : length f ≡ length g
+  pub inside : (i : ℕ) → (getD f i 0 ≡ getD g i 0 → ⊥) → InChosen size f x Chosen i
+  pub structure : (i : ℕ) → (getD f i 0 ≡ getD g i 0 → ⊥) → structureByte size f i → ⊥
+  pub others : (i : ℕ) → (getD f i 0 ≡ getD g i 0 → ⊥) → (k t : ℕ) → IsTile x k t → (Chosen k t → ⊥) → InWindow size f (rowOf x k) t i → ⊥
 
 -- what the decodings d of f and e of g show of a row r: its tiles that are not chosen, and the chosen ones by the rules
-pub record RowIsolated (g : List ℕ) (r : Row) (compression : ℕ) (Chosen : ℕ → Type 0) (d e : Decoding) : Type 0 where
+pub record RowIsolated (size : ℕ) (g : List ℕ) (r : Row) (compression : ℕ) (Chosen : ℕ → Type 0) (d e : Decoding) : Type 0 where
   pub accepted : (d .answer .number ≡ 0) × (e .answer .number ≡ 0)
   pub same : (t : ℕ) → t < r .count → (Chosen t → ⊥)
       → (getD (e .marks) t 0 ≡ getD (d .marks) t 0)
       × (shown (r .width) (r .height) (r .depth) t (e .pixels) ≡ shown (r .width) (r .height) (r .depth) t (d .pixels))
   pub given : (t : ℕ) → t < r .count → Chosen t
-      → (getD (e .marks) t 0 ≡ tile pointerSize g r compression t .mark)
-      × (shown (r .width) (r .height) (r .depth) t (e .pixels) ≡ tile pointerSize g r compression t .pixels)
+      → (getD (e .marks) t 0 ≡ tile size g r compression t .mark)
+      × (shown (r .width) (r .height) (r .depth) t (e .pixels) ≡ tile size g r compression t .pixels)
   pub good : (t : ℕ) → t < r .count → Chosen t
-      → GoodWhenValid (window pointerSize g r t) (tileWidth (r .width) t) (tileHeight (r .width) (r .height) t) (r .depth) compression
+      → GoodWhenValid (window size g r t) (tileWidth (r .width) t) (tileHeight (r .width) (r .height) t) (r .depth) compression
       (getD (e .marks) t 0) (shown (r .width) (r .height) (r .depth) t (e .pixels))
 
 -- g is read as f was, and its rows are isolated: the decoder is lent each file, what the reader gave for it, and buffers of the
@@ -75,12 +75,12 @@ pub record Isolated (f g lent : List ℕ) (Chosen : ℕ → ℕ → Type 0) : Ty
   pub rows : (k : ℕ) → k < reading f lent .answer .rows → (pixels marks pixels' marks' : List ℕ)
       → fits (rowOf (reading f lent) k) (length pixels) (length marks) ≡ true
       → fits (rowOf (reading g lent) k) (length pixels') (length marks') ≡ true
-      → RowIsolated g (rowOf (reading f lent) k) (reading f lent .answer .compression) (Chosen k)
-      (decoding f (reading f lent .table) k (reading f lent .answer .compression) pixels marks)
-      (decoding g (reading g lent .table) k (reading g lent .answer .compression) pixels' marks')
+      → RowIsolated pointerSize g (rowOf (reading f lent) k) (reading f lent .answer .compression) (Chosen k)
+      (decoding pointerSize f (reading f lent .table) k (reading f lent .answer .compression) pixels marks)
+      (decoding pointerSize g (reading g lent .table) k (reading g lent .answer .compression) pixels' marks')
 
 -- any file that is accepted, any choice of its tiles
 abbrev pub Isolation : Type 1
 Isolation =
     (f g lent : List ℕ) (Chosen : ℕ → ℕ → Type 0) → reading f lent .answer .number ≡ 0
-    → Damaged f g (reading f lent) Chosen → Isolated f g lent Chosen
+    → Damaged pointerSize f g (reading f lent) Chosen → Isolated f g lent Chosen

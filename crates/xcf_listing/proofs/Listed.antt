@@ -18,7 +18,7 @@ use Rattle.xcf_walk.specs.Walk.{Outcome, got, refused, run}
 use Rattle.xcf_laws.proofs.Cases.{below-or, by-cases}
 use Rattle.xcf_table.specs.Table.{tableSize, rowAt, fileLimit}
 use Rattle.xcf_read.specs.declared.ReadAnswer.{ReadAnswer}
-use Rattle.xcf_parse.specs.Hierarchy.{pointerSize}
+use Rattle.xcf_store.specs.Pointer.{pointerSize}
 use Rattle.xcf_read.specs.Image.{Image, image}
 use Rattle.xcf_read.specs.Answer.{refusal, Reading, readingOf, reading, Read}
 use Rattle.xcf_read_laws.proofs.Accepted.{accepted-sized, read-walked, accepted-exactly}
@@ -33,11 +33,11 @@ no-row : (table : List ℕ) → length table ≡ tableSize → rowAt table 128 .
 unfolding rowAt
 no-row table size = rw size
 
-few-rows : {f : List ℕ} {x : Reading} → Accepts f x → x .answer .rows ≤ 128
+few-rows : {size : ℕ} {f : List ℕ} {x : Reading} → Accepts size f x → x .answer .rows ≤ 128
 few-rows {x = x} a =
     ⊎-elim
     (λ below. omega arith)
-    (λ above. absurd (omega (arith, a .row 128 (omega arith) .kind .0, no-row (x .table) (a .size))))
+    (λ above. absurd (omega (arith, a .row 128 (omega arith) .kind .0, no-row (x .table) (a .long))))
     (below-or (x .answer .rows) 129)
 
 -- what the code needs to know of an accepted reading
@@ -49,7 +49,7 @@ pub record Listable (a : ReadAnswer) (table : List ℕ) : Type 0 where
 pub listable : (file table : List ℕ) {a : ReadAnswer} {after : List ℕ} → Read file table a after → a .number ≡ 0 → Listable a after
 listable file table read n =
     let x = accepts file table (rw (read .answer) at n) in
-    rw (read .answer, read .table) (record { way = x .way; few = few-rows x; size = x .size })
+    rw (read .answer, read .table) (record { way = x .way; few = few-rows x; size = x .long })
 
 -- a refused file has no rows, by the reader's definition; an accepted one has place 0
 no-rows : (file table : List ℕ) → (reading file table .answer .number ≡ 0 → ⊥) → reading file table .answer .rows ≡ 0

@@ -15,7 +15,8 @@ use Rattle.xcf_walk.specs.Walk.{Outcome, got, refused, run}
 use Rattle.xcf_table.specs.declared.Row.{Row}
 use Rattle.xcf_table.specs.Table.{rowAt}
 use Rattle.xcf_laws.proofs.Cases.{by-cases}
-use Rattle.xcf_parse.specs.Hierarchy.{pointerSize, tiles}
+use Rattle.xcf_parse.specs.Hierarchy.{tiles}
+use Rattle.xcf_store.specs.Pointer.{pointerSize}
 use Rattle.xcf_grid.proofs.FewTiles.{few-tiles}
 use Rattle.xcf_decode.specs.declared.DecodeAnswer.{DecodeAnswer}
 use Rattle.xcf_window.specs.Window.{tile}
@@ -23,16 +24,16 @@ use Rattle.xcf_decode.specs.Answer.{refusal, pointersRefusal, drawableRefusal, 
 use Rattle.xcf_window.specs.Usable.{rowRefusal}
 use Rattle.xcf_window.specs.Parts.{Usable}
 use Rattle.xcf_decode.proofs.Marked.{nonzero-below}
-use Rattle.xcf_decode.proofs.Usable.{row-usable}
+use Rattle.xcf_decode.proofs.Usable.{drawable-ready}
 use Rattle.xcf_listing.specs.Listing.{markedTiles}
 
 -- a usable row's marks
-usable-few : {r : Row} {compression : ℕ} (file : List ℕ) → Usable r compression → nonzero (marksOf pointerSize file r compression) ≤ 65536
+usable-few : (size : ℕ) {r : Row} {compression : ℕ} (file : List ℕ) → Usable r compression → nonzero (marksOf size file r compression) ≤ 65536
 unfolding marksOf
-usable-few {r} {compression} file u =
+usable-few size {r} {compression} file u =
     omega (
       arith,
-      nonzero-below (r .count) (λ t. tile pointerSize file r compression t .mark),
+      nonzero-below (r .count) (λ t. tile size file r compression t .mark),
       u .count,
       few-tiles (r .width) (r .height) (u .wide .1) (u .high .1),
     )
@@ -42,58 +43,44 @@ outcome-none : (x : Outcome (Unit {0})) → pointersRefusal x .marked ≡ 0
 outcome-none (got u q) = refl
 outcome-none (refused n p) = refl
 
-module _ (file : List ℕ) (n : ℕ) (r : Row) (compression : ℕ) where
-  abbrev row : ℕ
-  row = rowRefusal pointerSize (length file) n r compression
+refusal-none : (size : ℕ) (file : List ℕ) (n : ℕ) (r : Row) (compression : ℕ) → drawableRefusal size file n r compression true .marked ≡ 0
+unfolding drawableRefusal
+refusal-none size file n r compression =
+    let row = rowRefusal size (length file) n r compression in
+    by-cases (λ (a : DecodeAnswer). a .marked ≡ 0) (eqb row 0) (pointersRefusal (run (tiles size (r .count) 0) file (r .tiles))) (refusal row 0)
+    (λ _. outcome-none (run (tiles size (r .count) 0) file (r .tiles))) (λ _. refl)
 
-  abbrev pointers : Outcome (Unit {0})
-  pointers = run (tiles pointerSize (r .count) 0) file (r .tiles)
+pub marked-few : (size : ℕ) (file table : List ℕ) (k compression : ℕ) → counting size file table k compression .marked ≤ 65536
+unfolding counting
+marked-few size file table k compression =
+    let r = rowAt table k in
+    let n = length table in
+    let answer = drawableRefusal size file n r compression true in
+    by-cases (λ (a : DecodeAnswer). a .marked ≤ 65536) (eqb (answer .number) 0) (counted (marksOf size file r compression)) answer
+    (λ e. usable-few size file (drawable-ready size file n r compression true (eqb-true _ 0 e) .0 .usable))
+    (λ _. omega (arith, refusal-none size file n r compression))
 
-  refusal-none : drawableRefusal pointerSize file n r compression true .marked ≡ 0
-  unfolding drawableRefusal
-  refusal-none =
-      by-cases (λ (a : DecodeAnswer). a .marked ≡ 0) (eqb row 0) (pointersRefusal pointers) (refusal row 0)
-      (λ _. outcome-none pointers) (λ _. refl)
+module _ (file table : List ℕ) (compression : ℕ) where
+  pub tiles-few : (k n : ℕ) → markedTiles file table compression k n ≤ 65536 * n
+  unfolding markedTiles
+  tiles-few k zero = omega arith
+  tiles-few k (suc n) = omega (arith, marked-few pointerSize file table k compression, tiles-few (k + 1) n)
 
-  -- where nothing is refused, the row is not
-  row-taken : drawableRefusal pointerSize file n r compression true .number ≡ 0 → row ≡ 0
-  unfolding drawableRefusal
-  row-taken =
-      by-cases (λ (a : DecodeAnswer). a .number ≡ 0 → row ≡ 0) (eqb row 0) (pointersRefusal pointers) (refusal row 0)
-      (λ e _. eqb-true row 0 e) (λ _ z. z)
+  -- n + 1 rows: the last one's beside those of the first n
+  tiles-next : (k n : ℕ) → markedTiles file table compression k (suc n)
+      ≡ markedTiles file table compression k n + counting pointerSize file table (k + n) compression .marked
+  unfolding markedTiles
+  tiles-next k zero = omega (arith, ap (λ (j : ℕ). counting pointerSize file table j compression .marked) (add-zero k))
+  tiles-next k (suc n) =
+      let last : k + 1 + n ≡ k + suc n = omega arith in
+      omega (arith, tiles-next (k + 1) n, ap (λ (j : ℕ). counting pointerSize file table j compression .marked) last)
 
-module _ (file table : List ℕ) where
-  pub marked-few : (k compression : ℕ) → counting file table k compression .marked ≤ 65536
-  unfolding counting
-  marked-few k compression =
-      let r = rowAt table k in
-      let n = length table in
-      let answer = drawableRefusal pointerSize file n r compression true in
-      by-cases (λ (a : DecodeAnswer). a .marked ≤ 65536) (eqb (answer .number) 0) (counted (marksOf pointerSize file r compression)) answer
-      (λ e. usable-few file (row-usable (length file) n r compression (row-taken file n r compression (eqb-true _ 0 e))))
-      (λ _. omega (arith, refusal-none file n r compression))
+  -- before the first turn
+  pub tiles-start : 0 ≡ markedTiles file table compression 0 0
+  unfolding markedTiles
+  tiles-start = refl
 
-  module _ (compression : ℕ) where
-    pub tiles-few : (k n : ℕ) → markedTiles file table compression k n ≤ 65536 * n
-    unfolding markedTiles
-    tiles-few k zero = omega arith
-    tiles-few k (suc n) = omega (arith, marked-few k compression, tiles-few (k + 1) n)
-
-    -- n + 1 rows: the last one's beside those of the first n
-    tiles-next : (k n : ℕ) → markedTiles file table compression k (suc n)
-        ≡ markedTiles file table compression k n + counting file table (k + n) compression .marked
-    unfolding markedTiles
-    tiles-next k zero = omega (arith, ap (λ (j : ℕ). counting file table j compression .marked) (add-zero k))
-    tiles-next k (suc n) =
-        let last : k + 1 + n ≡ k + suc n = omega arith in
-        omega (arith, tiles-next (k + 1) n, ap (λ (j : ℕ). counting file table j compression .marked) last)
-
-    -- before the first turn
-    pub tiles-start : 0 ≡ markedTiles file table compression 0 0
-    unfolding markedTiles
-    tiles-start = refl
-
-    -- a turn
-    pub tiles-turn : (k : ℕ) {m n : ℕ} → m ≡ markedTiles file table compression 0 k → n ≡ counting file table k compression .marked
-        → m + n ≡ markedTiles file table compression 0 (k + 1)
-    tiles-turn k d e = rw (add-one, tiles-next 0 k, zero-add, d, e)
+  -- a turn
+  pub tiles-turn : (k : ℕ) {m n : ℕ} → m ≡ markedTiles file table compression 0 k → n ≡ counting pointerSize file table k compression .marked
+      → m + n ≡ markedTiles file table compression 0 (k + 1)
+  tiles-turn k d e = rw (add-one, tiles-next 0 k, zero-add, d, e)

@@ -7,6 +7,7 @@ use native.Mathlib.Nat.{add-zero, zero-add}
 use native.Mathlib.Numerals.{add-one}
 use native.Mathlib.Omega.{arith}
 use lib.ListN.{length}
+use Rattle.xcf_store.specs.Pointer.{pointerSize}
 use Rattle.xcf_decode.specs.Answer.{counting}
 use Rattle.xcf_row_line.specs.RowLine.{rowLine}
 use Rattle.xcf_listing.specs.Listing.{rowLines}
@@ -15,7 +16,7 @@ use Rattle.xcf_text.proofs.Written.{puts-none, puts-few, puts-then}
 
 module _ (file table : List ℕ) (compression : ℕ) where
   abbrev line : ℕ → List ℕ
-  line k = rowLine table k (counting file table k compression .marked)
+  line k = rowLine table k (counting pointerSize file table k compression .marked)
 
   -- n + 1 rows: the last behind the first n
   rows-next : (k n : ℕ) → rowLines file table compression k (suc n) ≡ rowLines file table compression k n ++ line (k + n)
@@ -35,6 +36,6 @@ module _ (file table : List ℕ) (compression : ℕ) where
   -- a turn
   pub rows-turn : {l : List ℕ} {at : ℕ} (k : ℕ) {next : ℕ} {text : List ℕ} {marked end : ℕ} {new : List ℕ}
       → Puts l at (rowLines file table compression 0 k) (lineSize * k) next text → at + lineSize * (k + 1) ≤ length l
-      → marked ≡ counting file table k compression .marked → Puts text next (rowLine table k marked) lineSize end new
+      → marked ≡ counting pointerSize file table k compression .marked → Puts text next (rowLine table k marked) lineSize end new
       → Puts l at (rowLines file table compression 0 (k + 1)) (lineSize * (k + 1)) end new
   rows-turn k p room e q = rw (add-one, rows-next 0 k, zero-add, ← e) (puts-few (puts-then p (omega arith) (λ r. q)) _ (omega arith))

@@ -5,6 +5,7 @@ use mathlib.Core.List.{List, [], _∷_, _++_}
 use mathlib.Core.Bool.{cond}
 use lib.ListN.{length, drop}
 use lib.Dec.{leb, eqb}
+use Rattle.xcf_store.specs.Pointer.{pointerSize}
 use Rattle.xcf_read.specs.Answer.{refusal, Reading, reading, refusals}
 use Rattle.xcf_decode.specs.Answer.{counting}
 use Rattle.xcf_listing.specs.declared.ListAnswer.{ListAnswer}
@@ -15,13 +16,13 @@ use Rattle.xcf_row_line.specs.RowLine.{rowLine}
 unfoldable pub rowLines : List ℕ → List ℕ → ℕ → ℕ → ℕ → List ℕ
 rowLines file table compression k zero = []
 rowLines file table compression k (suc n) =
-    rowLine table k (counting file table k compression .marked) ++ rowLines file table compression (k + 1) n
+    rowLine table k (counting pointerSize file table k compression .marked) ++ rowLines file table compression (k + 1) n
 
 -- the marked tiles of n rows from row k on
 unfoldable pub markedTiles : List ℕ → List ℕ → ℕ → ℕ → ℕ → ℕ
 markedTiles file table compression k zero = 0
 markedTiles file table compression k (suc n) =
-    counting file table k compression .marked + markedTiles file table compression (k + 1) n
+    counting pointerSize file table k compression .marked + markedTiles file table compression (k + 1) n
 
 unfoldable pub linesOf : List ℕ → Reading → List ℕ
 linesOf file x =

@@ -7,6 +7,7 @@ ghost use Rattle.xcf_listing.specs.Listing.{rowLines, markedTiles};
 ghost use Rattle.xcf_text.specs.Parts.{lineSize, Puts};
 use xcf_decode::count_marked;
 use xcf_row_line::put_row;
+use xcf_store::pointer::POINTER_SIZE;
 
 // The place behind the lines put, and how many tiles of their rows are marked.
 pub(crate) struct RowsPut {
@@ -32,7 +33,7 @@ pub(crate) fn put_rows(
     let mut marked: u64 = 0;
     let mut k: u32 = 0;
     while k < rows {
-        let answer = count_marked(file, table, k, compression);
+        let answer = count_marked(file, table, k, compression, POINTER_SIZE);
         end = put_row(table, k, answer.marked, text, end);
         marked += answer.marked;
         k += 1;

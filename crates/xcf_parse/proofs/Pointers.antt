@@ -1,8 +1,8 @@
 -- The parts of a hierarchy: a word that agrees passes over bytes of the file (`advances-agrees`); a turn over the further
--- pointers leads where its word does (`rest-turn`) and moves on where it was no 0 (`rest-moves`), since such a word was read
+-- pointers leads where its pointer does (`rest-turn`) and moves on where it was no 0 (`rest-moves`), since such a pointer was read
 -- (`read-is-live`).
 -- Assumes nothing.
-use Prim.Native.Nat.{ℕ}
+use Prim.Native.Nat.{ℕ, _≤_}
 use mathlib.Core.Path.{_≡_, refl}
 use mathlib.Core.List.{List}
 use mathlib.Core.Bool.{Bool, true, false, cond, not}
@@ -10,15 +10,15 @@ use borrow.Author.Tests.{eqb-true, eqb-false, not-true}
 use lib.Dec.{eqb}
 use Rattle.xcf_walk.specs.declared.cursor.Cursor.{Cursor}
 use Rattle.xcf_walk.specs.Walk.{Walk, here}
-use Rattle.xcf_walk.specs.Fields.{word}
+use Rattle.xcf_walk.specs.Fields.{number, word}
 use Rattle.xcf_walk.specs.Cursor.{Leads, Reads, turnOf}
 use Rattle.xcf_laws.proofs.Cases.{cond-not}
 use Rattle.xcf_walk.proofs.Straight.{Straight, straight-bind, straight-here, straight-word, straight-must}
-use Rattle.xcf_walk.proofs.Advances.{Advances, advances-next, advances-first, advances-word}
+use Rattle.xcf_walk.proofs.Advances.{Advances, advances-next, advances-first, advances-number, advances-word}
 use Rattle.xcf_walk.proofs.Within.{moves-on}
 use Rattle.xcf_walk.proofs.Resume.{then, ends}
 use Rattle.xcf_walk.proofs.Loops.{Moves}
-use Rattle.xcf_parse.specs.Hierarchy.{pointerSize, agrees, restTurn}
+use Rattle.xcf_parse.specs.Hierarchy.{agrees, restTurn}
 
 straight-agrees : (v : ℕ) → Straight (agrees v)
 unfolding agrees
@@ -36,10 +36,10 @@ read-is-live {d = d} {v = v} r h = go (eqb (d .number) 0) refl (r .absent)
     go true e z = eqb-true _ _ e
     go false e z = absurd (h z)
 
-module _ {c d : Cursor} {f : List ℕ} {v : ℕ} (r : Reads c word f 0 d v) where
-  pub rest-turn : Leads c (restTurn pointerSize tt) f d (turnOf (not (eqb v 0)) tt)
-  unfolding restTurn word
+module _ (size : ℕ) {c d : Cursor} {f : List ℕ} {v : ℕ} (r : Reads c (number size) f 0 d v) where
+  pub rest-turn : Leads c (restTurn size tt) f d (turnOf (not (eqb v 0)) tt)
+  unfolding restTurn
   rest-turn = then _ (r .leads) (rw cond-not ends)
 
-  pub rest-moves : Moves f (not (eqb v 0)) c d
-  rest-moves e = moves-on advances-word (r .leads) (read-is-live r (eqb-false _ _ (not-true _ e)))
+  pub rest-moves : 1 ≤ size → Moves f (not (eqb v 0)) c d
+  rest-moves some e = moves-on (advances-number size some) (r .leads) (read-is-live r (eqb-false _ _ (not-true _ e)))

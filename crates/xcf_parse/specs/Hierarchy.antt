@@ -1,14 +1,10 @@
--- A drawable's hierarchy, its first level and the pointers of its tiles.
+-- A drawable's hierarchy, its first level and the pointers of its tiles. A pointer has `size` bytes.
 use Prim.Native.Nat.{ℕ, zero, suc}
 use mathlib.Core.Bool.{cond, not, _&&_}
 use lib.Dec.{ltb, eqb}
 use Rattle.xcf_walk.specs.Walk.{Walk, done, here, fileLength, jump, must, Turn, more, last, loop, _>>=_, _>>_}
 use Rattle.xcf_walk.specs.Fields.{number, word}
 use Rattle.xcf_grid.specs.Grid.{tileCount}
-
--- the number of a pointer's bytes in versions 0 to 3
-abbrev pub pointerSize : ℕ
-pointerSize = 4
 
 -- a word that has to be v
 unfoldable pub agrees : ℕ → Walk (Unit {0})

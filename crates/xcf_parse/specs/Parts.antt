@@ -10,7 +10,7 @@ use Rattle.xcf_property.specs.Property.{noProperties}
 use Rattle.xcf_parse.specs.declared.drawable.Fields.{Fields}
 use Rattle.xcf_parse.specs.declared.drawable.Layer.{Layer}
 use Rattle.xcf_parse.specs.declared.image.Head.{Head}
-use Rattle.xcf_parse.specs.Hierarchy.{pointerSize, tiles}
+use Rattle.xcf_parse.specs.Hierarchy.{tiles}
 
 abbrev pub fileStart : Cursor
 fileStart = record { at = 0; number = 0 }
@@ -36,9 +36,9 @@ pub record LayerLow (x : Layer) (n : ℕ) : Type 0 where
   pub height : x .height ≤ 16384
   pub fields : FieldsLow (x .fields) n
 
--- of n tiles count pointers are right, the last of them before next: where what is left leads, the whole leads; and where the
+-- of n tiles count pointers of `size` bytes are right, the last of them before next: where what is left leads, the whole leads; and where the
 -- cursor is live and pointers are left, the next one is not right
-pub record TilesLeft (f : List ℕ) (c : Cursor) (n : ℕ) (next : Cursor) (last count : ℕ) : Type 0 where
+pub record TilesLeft (size : ℕ) (f : List ℕ) (c : Cursor) (n : ℕ) (next : Cursor) (last count : ℕ) : Type 0 where
   pub few : count ≤ n
-  pub whole : {d : Cursor} → Leads next (tiles pointerSize (n - count) last) f d tt → Leads c (tiles pointerSize n 0) f d tt
-  pub stops : next .number ≡ 0 → count < n → rises f (next .at) last ≡ false
+  pub whole : {d : Cursor} → Leads next (tiles size (n - count) last) f d tt → Leads c (tiles size n 0) f d tt
+  pub stops : next .number ≡ 0 → count < n → rises size f (next .at) last ≡ false

@@ -2,8 +2,8 @@
 ghost use mathlib.Core.Path.{_≡_};
 ghost use Prim.Native.Nat.{_≤_};
 ghost use lib.ListN.{length};
+ghost use Rattle.xcf_store.specs.Pointer.{PointerSize};
 ghost use Rattle.xcf_walk.specs.Cursor.{Leads, Reads};
-ghost use Rattle.xcf_parse.specs.Hierarchy.{pointerSize};
 ghost use Rattle.xcf_parse.specs.Drawable.{side, sideLike, layerType, fields, layer, channel};
 ghost use Rattle.xcf_parse.specs.Parts.{noFields, noLayer, FieldsLow, LayerLow};
 use crate::hierarchy::pointer;
@@ -106,14 +106,15 @@ impl Fields {
     }
 }
 
-fn read_fields(cursor: Cursor, file: &[u8], kind: u32) -> FieldsRead
-    ensures { λ r. ⌜ Reads cursor (fields pointerSize kind) (now (file .entry)) noFields (r .cursor) (r .fields) ⌝ }
+fn read_fields(cursor: Cursor, file: &[u8], size: usize, kind: u32) -> FieldsRead
+    requires { ⌜ PointerSize size ⌝ }
+    ensures { λ r. ⌜ Reads cursor (fields size kind) (now (file .entry)) noFields (r .cursor) (r .fields) ⌝ }
     ensures { λ r. ⌜ FieldsLow (r .fields) (length (now (file .entry))) ⌝ }
 {
     let name = cursor.string(file);
     let list = name.cursor.place();
     let p = name.cursor.properties(file, kind, 0);
-    let h = pointer(p.cursor, file);
+    let h = pointer(p.cursor, file, size);
     let next = h.cursor;
     if next.number != 0 {
         let none = Fields::none();
@@ -135,15 +136,16 @@ fn read_fields(cursor: Cursor, file: &[u8], kind: u32) -> FieldsRead
     }
 }
 
-pub fn read_layer(cursor: Cursor, file: &[u8], base: u32) -> LayerRead
-    ensures { λ r. ⌜ Reads cursor (layer pointerSize base) (now (file .entry)) noLayer (r .cursor) (r .layer) ⌝ }
+pub fn read_layer(cursor: Cursor, file: &[u8], size: usize, base: u32) -> LayerRead
+    requires { ⌜ PointerSize size ⌝ }
+    ensures { λ r. ⌜ Reads cursor (layer size base) (now (file .entry)) noLayer (r .cursor) (r .layer) ⌝ }
     ensures { λ r. ⌜ LayerLow (r .layer) (length (now (file .entry))) ⌝ }
 {
     let width = side(cursor, file);
     let height = side(width.cursor, file);
     let form = layer_type(height.cursor, file, base);
-    let x = read_fields(form.cursor, file, 1);
-    let mask = x.cursor.word(file);
+    let x = read_fields(form.cursor, file, size, 1);
+    let mask = x.cursor.pointer(file, size);
     let next = mask.cursor;
     if next.number != 0 {
         let none = Fields::none();
@@ -171,11 +173,12 @@ pub fn read_layer(cursor: Cursor, file: &[u8], base: u32) -> LayerRead
     }
 }
 
-pub fn read_channel(cursor: Cursor, file: &[u8], o: Owner) -> FieldsRead
-    ensures { λ r. ⌜ Reads cursor (channel pointerSize o) (now (file .entry)) noFields (r .cursor) (r .fields) ⌝ }
+pub fn read_channel(cursor: Cursor, file: &[u8], size: usize, o: Owner) -> FieldsRead
+    requires { ⌜ PointerSize size ⌝ }
+    ensures { λ r. ⌜ Reads cursor (channel size o) (now (file .entry)) noFields (r .cursor) (r .fields) ⌝ }
     ensures { λ r. ⌜ FieldsLow (r .fields) (length (now (file .entry))) ⌝ }
 {
     let first = side_like(cursor, file, o.width);
     let second = side_like(first, file, o.height);
-    read_fields(second, file, o.kind)
+    read_fields(second, file, size, o.kind)
 }

@@ -4,11 +4,12 @@ ghost use Prim.Native.Nat.{_≤_};
 ghost use mathlib.Core.Bool.{_&&_};
 ghost use lib.ListN.{length};
 ghost use lib.Dec.{eqb};
+ghost use Rattle.xcf_store.specs.Pointer.{PointerSize};
 ghost use Rattle.xcf_walk.specs.Cursor.{Leads, Reads};
 ghost use Rattle.xcf_parse.specs.Parts.{TilesLeft};
-ghost use Rattle.xcf_parse.specs.Hierarchy.{pointerSize, agrees, pointer, rest, tiles, hierarchy};
+ghost use Rattle.xcf_parse.specs.Hierarchy.{agrees, pointer, rest, tiles, hierarchy};
 use xcf_grid::tile_count;
-use xcf_store::rising::rising_words;
+use xcf_store::rising::rising_pointers;
 use xcf_walk::cursor::Cursor;
 use xcf_walk::cursor::WordRead;
 use xcf_walk::cursor::start;
@@ -35,10 +36,11 @@ fn agrees(cursor: Cursor, file: &[u8], v: u32) -> Cursor
 }
 
 // A pointer that is not 0.
-pub(crate) fn pointer(cursor: Cursor, file: &[u8]) -> WordRead
-    ensures { λ r. ⌜ Leads cursor (pointer pointerSize) (now (file .entry)) (r .cursor) (r .value) ⌝ }
+pub(crate) fn pointer(cursor: Cursor, file: &[u8], size: usize) -> WordRead
+    requires { ⌜ PointerSize size ⌝ }
+    ensures { λ r. ⌜ Leads cursor (pointer size) (now (file .entry)) (r .cursor) (r .value) ⌝ }
 {
-    let p = cursor.word(file);
+    let p = cursor.pointer(file, size);
     let next = p.cursor.check(p.value != 0, 9, cursor.at);
     WordRead {
         value: p.value,
@@ -47,13 +49,14 @@ pub(crate) fn pointer(cursor: Cursor, file: &[u8]) -> WordRead
 }
 
 // Further pointers up to a 0.
-fn rest(cursor: Cursor, file: &[u8]) -> Cursor
-    ensures { λ r. ⌜ Leads cursor (rest pointerSize) (now (file .entry)) r tt ⌝ }
+fn rest(cursor: Cursor, file: &[u8], size: usize) -> Cursor
+    requires { ⌜ PointerSize size ⌝ }
+    ensures { λ r. ⌜ Leads cursor (rest size) (now (file .entry)) r tt ⌝ }
 {
     let mut next = cursor;
     let mut again = true;
     while again {
-        let p = next.word(file);
+        let p = next.pointer(file, size);
         next = p.cursor;
         again = p.value != 0;
     }
@@ -61,8 +64,9 @@ fn rest(cursor: Cursor, file: &[u8]) -> Cursor
 }
 
 // The tile pointers that are right, from a refused cursor none.
-fn right_tiles(cursor: Cursor, file: &[u8], n: u32) -> TilesRead
-    ensures { λ r. ⌜ TilesLeft (now (file .entry)) cursor n (r .cursor) (r .last) (r .count) ⌝ }
+fn right_tiles(cursor: Cursor, file: &[u8], size: usize, n: u32) -> TilesRead
+    requires { ⌜ PointerSize size ⌝ }
+    ensures { λ r. ⌜ TilesLeft size (now (file .entry)) cursor n (r .cursor) (r .last) (r .count) ⌝ }
 {
     if cursor.number != 0 {
         return TilesRead {
@@ -72,8 +76,8 @@ fn right_tiles(cursor: Cursor, file: &[u8], n: u32) -> TilesRead
         };
     }
     let at = cursor.at;
-    let read = rising_words(file, at, n);
-    let next = start(at + 4 * (read.count as usize));
+    let read = rising_pointers(file, at, n, size);
+    let next = start(at + size * (read.count as usize));
     TilesRead {
         count: read.count,
         last: read.last,
@@ -89,32 +93,40 @@ fn closes(count: u32, n: u32, p: u32) -> bool
 }
 
 // The pointers of n tiles and the closing word.
-pub fn tiles(cursor: Cursor, file: &[u8], n: u32) -> Cursor
-    ensures { λ r. ⌜ Leads cursor (tiles pointerSize n 0) (now (file .entry)) r tt ⌝ }
+pub fn tiles(cursor: Cursor, file: &[u8], size: usize, n: u32) -> Cursor
+    requires { ⌜ PointerSize size ⌝ }
+    ensures { λ r. ⌜ Leads cursor (tiles size n 0) (now (file .entry)) r tt ⌝ }
 {
-    let right = right_tiles(cursor, file, n);
+    let right = right_tiles(cursor, file, size, n);
     let next = right.cursor;
-    let p = next.word(file);
+    let p = next.pointer(file, size);
     p.cursor.check(closes(right.count, n, p.value), 13, next.at)
 }
 
 // A hierarchy and its first level, for a drawable of these sides and this depth.
-pub fn hierarchy(cursor: Cursor, file: &[u8], width: u32, height: u32, depth: u32) -> PlaceRead
-    requires { ⌜ (width ≤ 16384) × (height ≤ 16384) ⌝ }
-    ensures { λ r. ⌜ Reads cursor (hierarchy pointerSize width height depth) (now (file .entry)) 0 (r .cursor) (r .place) ⌝ }
+pub fn hierarchy(
+    cursor: Cursor,
+    file: &[u8],
+    size: usize,
+    width: u32,
+    height: u32,
+    depth: u32,
+) -> PlaceRead
+    requires { ⌜ PointerSize size × (width ≤ 16384) × (height ≤ 16384) ⌝ }
+    ensures { λ r. ⌜ Reads cursor (hierarchy size width height depth) (now (file .entry)) 0 (r .cursor) (r .place) ⌝ }
     ensures { λ r. ⌜ r .place ≤ length (now (file .entry)) ⌝ }
 {
     let first = agrees(cursor, file, width);
     let second = agrees(first, file, height);
     let third = agrees(second, file, depth);
-    let level = pointer(third, file);
-    let fourth = rest(level.cursor, file);
+    let level = pointer(third, file, size);
+    let fourth = rest(level.cursor, file, size);
     let fifth = fourth.jump(level.value as usize);
     let sixth = agrees(fifth, file, width);
     let seventh = agrees(sixth, file, height);
     let count = tile_count(width, height) as u32;
     let place = seventh.place();
-    let end = tiles(seventh, file, count);
+    let end = tiles(seventh, file, size, count);
     if end.number != 0 {
         return PlaceRead {
             place: 0,

@@ -14,7 +14,7 @@ use Rattle.xcf_walk.proofs.Resume.{is-live, is-refused}
 use Rattle.xcf_table.specs.Table.{tableSize, clearFrom, rowsIn, fileLimit}
 use Rattle.xcf_table.proofs.Puts.{cleared-table}
 use Rattle.xcf_parse.specs.declared.image.Head.{Head}
-use Rattle.xcf_parse.specs.Hierarchy.{pointerSize}
+use Rattle.xcf_store.specs.Pointer.{pointerSize}
 use Rattle.xcf_read.specs.Image.{Image, image}
 use Rattle.xcf_read.specs.Answer.{refusal, readingOf, reading, Read}
 use Rattle.xcf_parse.specs.Parts.{fileStart}

@@ -8,7 +8,7 @@ use lib.Dec.{leb, eqb}
 use Rattle.xcf_walk.specs.Walk.{Outcome, got, refused, run}
 use Rattle.xcf_table.specs.Table.{tableSize, noRows, tableOf, fileLimit, rowAt}
 use Rattle.xcf_read.specs.declared.ReadAnswer.{ReadAnswer}
-use Rattle.xcf_parse.specs.Hierarchy.{pointerSize}
+use Rattle.xcf_store.specs.Pointer.{pointerSize}
 use Rattle.xcf_read.specs.Image.{Image, image}
 use Rattle.xcf_table.specs.declared.Row.{Row}
 

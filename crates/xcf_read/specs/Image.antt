@@ -8,7 +8,6 @@ use Rattle.xcf_walk.specs.Fields.{number}
 use Rattle.xcf_table.specs.Table.{Rows, noRows}
 use Rattle.xcf_table.specs.declared.canvas.Canvas.{Canvas}
 use Rattle.xcf_parse.specs.declared.image.Head.{Head}
-use Rattle.xcf_parse.specs.Hierarchy.{pointerSize}
 use Rattle.xcf_read.specs.Drawable.{layerRows, canvasChannelRows}
 use Rattle.xcf_parse.specs.Image.{head}
 
@@ -54,5 +53,5 @@ image size = do
 
 -- document 01's structure byte: one that the walk of an accepted file passes over; of a refused file, one passed over before the
 -- fault
-unfoldable pub structureByte : List ℕ → ℕ → Type 0
-structureByte f i = PassedOver (image pointerSize) f 0 i
+unfoldable pub structureByte : ℕ → List ℕ → ℕ → Type 0
+structureByte size f i = PassedOver (image size) f 0 i

@@ -7,12 +7,11 @@ use lib.ListN.{length}
 use lib.Dec.{eqb}
 use Rattle.xcf_walk.specs.declared.cursor.Cursor.{Cursor}
 use Rattle.xcf_walk.specs.Walk.{Walk}
-use Rattle.xcf_store.specs.Word.{part, bigEndian}
-use Rattle.xcf_walk.specs.Fields.{word}
+use Rattle.xcf_walk.specs.Fields.{number}
 use Rattle.xcf_walk.specs.Cursor.{Leads}
 use Rattle.xcf_table.specs.Table.{Rows, rowsIn}
 use Rattle.xcf_table.specs.declared.canvas.Canvas.{Canvas}
-use Rattle.xcf_parse.specs.Hierarchy.{pointerSize}
+use Rattle.xcf_store.specs.Pointer.{numberAt}
 use Rattle.xcf_read.specs.Drawable.{layerRows, canvasChannelRows}
 use Rattle.xcf_read.specs.Image.{pointers}
 
@@ -29,20 +28,20 @@ drawable size kind c = cond (eqb kind 1) (layerRows size c) (canvasChannelRows s
 unfoldable pub rowsMost : ℕ → ℕ → ℕ
 rowsMost kind n = cond (eqb kind 1) (2 * n) n
 
--- n words, one after another from a place on
-unfoldable pub wordsAt : List ℕ → ℕ → ℕ → List ℕ
-wordsAt f at zero = []
-wordsAt f at (suc n) = bigEndian 0 (part f at 4) ∷ wordsAt f (at + 4) n
+-- n pointers, one after another from a place on
+unfoldable pub pointersAt : ℕ → List ℕ → ℕ → ℕ → List ℕ
+pointersAt size f at zero = []
+pointersAt size f at (suc n) = numberAt size f at ∷ pointersAt size f (at + size) n
 
--- the word at c is a pointer, and one of so many that are left
-pub record Another (c : Cursor) (f : List ℕ) (left : ℕ) (d : Cursor) : Type 0 where
+-- the number at c is a pointer, and one of so many that are left
+pub record Another (size : ℕ) (c : Cursor) (f : List ℕ) (left : ℕ) (d : Cursor) : Type 0 where
   pub room : 1 ≤ left
   pub live : d .number ≡ 0
-  pub read : Leads c word f d (bigEndian 0 (part f (c .at) 4))
-  pub nonzero : bigEndian 0 (part f (c .at) 4) ≡ 0 → ⊥
+  pub read : Leads c (number size) f d (numberAt size f (c .at))
+  pub nonzero : numberAt size f (c .at) ≡ 0 → ⊥
 
 -- a turn over pointers: another is read, or the walk over them ends, at a 0 or with a refusal
-pub record PointerRead (c : Cursor) (f : List ℕ) (left : ℕ) (again : Bool) (d : Cursor) : Type 0 where
-  pub within : d .number ≡ 0 → (d .at ≡ c .at + 4) × (d .at ≤ length f)
-  pub another : again ≡ true → Another c f left d
-  pub over : again ≡ false → Leads c (pointers pointerSize left) f d []
+pub record PointerRead (size : ℕ) (c : Cursor) (f : List ℕ) (left : ℕ) (again : Bool) (d : Cursor) : Type 0 where
+  pub within : d .number ≡ 0 → (d .at ≡ c .at + size) × (d .at ≤ length f)
+  pub another : again ≡ true → Another size c f left d
+  pub over : again ≡ false → Leads c (pointers size left) f d []

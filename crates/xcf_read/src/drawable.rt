@@ -2,8 +2,8 @@
 ghost use mathlib.Core.Path.{_≡_};
 ghost use Prim.Native.Nat.{_+_, _*_, _≤_, _<_};
 ghost use lib.ListN.{length};
+ghost use Rattle.xcf_store.specs.Pointer.{PointerSize};
 ghost use Rattle.xcf_table.specs.Table.{rowSize, tableSize, rowsIn, fileLimit};
-ghost use Rattle.xcf_parse.specs.Hierarchy.{pointerSize};
 ghost use Rattle.xcf_read.specs.Drawable.{channelRows, maskRows, layerRows};
 ghost use Rattle.xcf_read.specs.Parts.{drawable, Filled, rowsMost};
 use xcf_parse::drawable::Layer;
@@ -27,16 +27,23 @@ pub struct RowsRead {
 }
 
 // The row of a mask or channel becomes row k. After a refusal the row means nothing.
-fn channel_rows(cursor: Cursor, file: &[u8], table: &mut [u32], o: Owner, k: u32) -> RowsRead
-    requires { ⌜ (length (now file) ≤ fileLimit) × (o .width ≤ 16384) × (o .height ≤ 16384) ⌝ }
+fn channel_rows(
+    cursor: Cursor,
+    file: &[u8],
+    size: usize,
+    table: &mut [u32],
+    o: Owner,
+    k: u32,
+) -> RowsRead
+    requires { ⌜ PointerSize size × (length (now file) ≤ fileLimit) × (o .width ≤ 16384) × (o .height ≤ 16384) ⌝ }
     requires { ⌜ (k < 128) × (rowSize * (k + 1) ≤ length (now table)) ⌝ }
-    ensures { λ r. ⌜ Filled cursor (channelRows pointerSize o (rowsIn k (now (table .entry)))) (now (file .entry)) (now (table .entry)) (r .cursor) (r .rows) (now (table .exit)) ⌝ }
+    ensures { λ r. ⌜ Filled cursor (channelRows size o (rowsIn k (now (table .entry)))) (now (file .entry)) (now (table .entry)) (r .cursor) (r .rows) (now (table .exit)) ⌝ }
     ensures { λ r. ⌜ r .rows ≡ k + 1 ⌝ }
 {
-    let x = read_channel(cursor, file, o);
+    let x = read_channel(cursor, file, size, o);
     let own = x.fields;
     let down = x.cursor.jump(own.hierarchy as usize);
-    let tiles = hierarchy(down, file, o.width, o.height, 1);
+    let tiles = hierarchy(down, file, size, o.width, o.height, 1);
     put_row(table, k, channel_row(o, own, tiles.place));
     let next = tiles.cursor;
     RowsRead {
@@ -46,10 +53,17 @@ fn channel_rows(cursor: Cursor, file: &[u8], table: &mut [u32], o: Owner, k: u32
 }
 
 // The mask of the layer of row k, if it has one, becomes row k + 1.
-fn mask_rows(cursor: Cursor, file: &[u8], table: &mut [u32], x: Layer, k: u32) -> RowsRead
-    requires { ⌜ (length (now file) ≤ fileLimit) × (x .width ≤ 16384) × (x .height ≤ 16384) ⌝ }
+fn mask_rows(
+    cursor: Cursor,
+    file: &[u8],
+    size: usize,
+    table: &mut [u32],
+    x: Layer,
+    k: u32,
+) -> RowsRead
+    requires { ⌜ PointerSize size × (length (now file) ≤ fileLimit) × (x .width ≤ 16384) × (x .height ≤ 16384) ⌝ }
     requires { ⌜ (k < 127) × (rowSize * (k + 2) ≤ length (now table)) ⌝ }
-    ensures { λ r. ⌜ Filled cursor (maskRows pointerSize x k (rowsIn (k + 1) (now (table .entry)))) (now (file .entry)) (now (table .entry)) (r .cursor) (r .rows) (now (table .exit)) ⌝ }
+    ensures { λ r. ⌜ Filled cursor (maskRows size x k (rowsIn (k + 1) (now (table .entry)))) (now (file .entry)) (now (table .entry)) (r .cursor) (r .rows) (now (table .exit)) ⌝ }
     ensures { λ r. ⌜ r .rows ≤ k + 2 ⌝ }
 {
     if x.mask == 0 {
@@ -59,42 +73,50 @@ fn mask_rows(cursor: Cursor, file: &[u8], table: &mut [u32], x: Layer, k: u32) -
         };
     }
     let aside = cursor.jump(x.mask as usize);
-    channel_rows(aside, file, table, mask_owner(x, k), k + 1)
+    channel_rows(aside, file, size, table, mask_owner(x, k), k + 1)
 }
 
 // The row of a layer becomes row k, and its mask's the next.
-fn layer_rows(cursor: Cursor, file: &[u8], table: &mut [u32], c: Canvas, k: u32) -> RowsRead
-    requires { ⌜ length (now file) ≤ fileLimit ⌝ }
+fn layer_rows(
+    cursor: Cursor,
+    file: &[u8],
+    size: usize,
+    table: &mut [u32],
+    c: Canvas,
+    k: u32,
+) -> RowsRead
+    requires { ⌜ PointerSize size × (length (now file) ≤ fileLimit) ⌝ }
     requires { ⌜ (k < 127) × (rowSize * (k + 2) ≤ length (now table)) ⌝ }
-    ensures { λ r. ⌜ Filled cursor (layerRows pointerSize c (rowsIn k (now (table .entry)))) (now (file .entry)) (now (table .entry)) (r .cursor) (r .rows) (now (table .exit)) ⌝ }
+    ensures { λ r. ⌜ Filled cursor (layerRows size c (rowsIn k (now (table .entry)))) (now (file .entry)) (now (table .entry)) (r .cursor) (r .rows) (now (table .exit)) ⌝ }
     ensures { λ r. ⌜ r .rows ≤ k + 2 ⌝ }
 {
-    let read = read_layer(cursor, file, c.base);
+    let read = read_layer(cursor, file, size, c.base);
     let x = read.layer;
     let own = x.fields;
     let down = read.cursor.jump(own.hierarchy as usize);
-    let tiles = hierarchy(down, file, x.width, x.height, depth_of(x.form));
+    let tiles = hierarchy(down, file, size, x.width, x.height, depth_of(x.form));
     put_row(table, k, layer_row(x, tiles.place, k));
-    mask_rows(tiles.cursor, file, table, x, k)
+    mask_rows(tiles.cursor, file, size, table, x, k)
 }
 
 // The drawable of this kind at the cursor: 1 a layer, with its mask, or 3 a channel.
 pub(crate) fn drawable(
     cursor: Cursor,
     file: &[u8],
+    size: usize,
     table: &mut [u32],
     kind: u32,
     c: Canvas,
     k: u32,
 ) -> RowsRead
-    requires { ⌜ (length (now file) ≤ fileLimit) × (c .width ≤ 16384) × (c .height ≤ 16384) ⌝ }
+    requires { ⌜ PointerSize size × (length (now file) ≤ fileLimit) × (c .width ≤ 16384) × (c .height ≤ 16384) ⌝ }
     requires { ⌜ (k + rowsMost kind 1 ≤ 128) × (length (now table) ≡ tableSize) ⌝ }
-    ensures { λ r. ⌜ Filled cursor (drawable pointerSize kind c (rowsIn k (now (table .entry)))) (now (file .entry)) (now (table .entry)) (r .cursor) (r .rows) (now (table .exit)) ⌝ }
+    ensures { λ r. ⌜ Filled cursor (drawable size kind c (rowsIn k (now (table .entry)))) (now (file .entry)) (now (table .entry)) (r .cursor) (r .rows) (now (table .exit)) ⌝ }
     ensures { λ r. ⌜ r .rows ≤ k + rowsMost kind 1 ⌝ }
 {
     if kind == 1 {
-        layer_rows(cursor, file, table, c, k)
+        layer_rows(cursor, file, size, table, c, k)
     } else {
-        channel_rows(cursor, file, table, channel_owner(c, k), k)
+        channel_rows(cursor, file, size, table, channel_owner(c, k), k)
     }
 }

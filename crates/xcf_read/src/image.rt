@@ -3,11 +3,11 @@ ghost use mathlib.Core.Path.{_≡_};
 ghost use Prim.Native.Nat.{_+_, _*_, _≤_};
 ghost use lib.ListN.{length};
 ghost use Rattle.xcf_walk.specs.Cursor.{Leads};
+ghost use Rattle.xcf_store.specs.Pointer.{PointerSize};
 ghost use Rattle.xcf_table.specs.Table.{tableSize, rowsIn, fileLimit};
-ghost use Rattle.xcf_parse.specs.Hierarchy.{pointerSize};
 ghost use Rattle.xcf_parse.specs.Image.{head};
 ghost use Rattle.xcf_read.specs.Image.{pointers, canvasOf, drawables, image};
-ghost use Rattle.xcf_read.specs.Parts.{drawable, Filled, rowsMost, wordsAt, PointerRead};
+ghost use Rattle.xcf_read.specs.Parts.{drawable, Filled, rowsMost, pointersAt, PointerRead};
 ghost use Rattle.xcf_parse.specs.Parts.{fileStart};
 use crate::drawable::RowsRead;
 use crate::drawable::drawable;
@@ -36,10 +36,11 @@ pub struct ImageRead {
 }
 
 // One pointer, where so many more are allowed.
-fn pointer_turn(cursor: Cursor, file: &[u8], left: u32) -> PointerTurn
-    ensures { λ r. ⌜ PointerRead cursor (now (file .entry)) left (r .again) (r .cursor) ⌝ }
+fn pointer_turn(cursor: Cursor, file: &[u8], size: usize, left: u32) -> PointerTurn
+    requires { ⌜ PointerSize size ⌝ }
+    ensures { λ r. ⌜ PointerRead size cursor (now (file .entry)) left (r .again) (r .cursor) ⌝ }
 {
-    let p = cursor.word(file);
+    let p = cursor.pointer(file, size);
     if p.value == 0 {
         let next = p.cursor;
         return PointerTurn {
@@ -55,15 +56,16 @@ fn pointer_turn(cursor: Cursor, file: &[u8], left: u32) -> PointerTurn
 }
 
 // Pointers closed by 0, at most so many.
-fn pointers(cursor: Cursor, file: &[u8], most: u32) -> PointersRead
-    ensures { λ r. ⌜ Leads cursor (pointers pointerSize most) (now (file .entry)) (r .cursor) (wordsAt (now (file .entry)) (cursor .at) (r .count)) ⌝ }
-    ensures { λ r. ⌜ (r .count ≤ most) × (r .cursor .number ≡ 0 → cursor .at + 4 * r .count ≤ length (now (file .entry))) ⌝ }
+fn pointers(cursor: Cursor, file: &[u8], size: usize, most: u32) -> PointersRead
+    requires { ⌜ PointerSize size ⌝ }
+    ensures { λ r. ⌜ Leads cursor (pointers size most) (now (file .entry)) (r .cursor) (pointersAt size (now (file .entry)) (cursor .at) (r .count)) ⌝ }
+    ensures { λ r. ⌜ (r .count ≤ most) × (r .cursor .number ≡ 0 → cursor .at + size * r .count ≤ length (now (file .entry))) ⌝ }
 {
     let mut next = cursor;
     let mut count: u32 = 0;
     let mut again = true;
     while again {
-        let turn = pointer_turn(next, file, most - count);
+        let turn = pointer_turn(next, file, size, most - count);
         next = turn.cursor;
         again = turn.again;
         if again {
@@ -80,6 +82,7 @@ fn pointers(cursor: Cursor, file: &[u8], most: u32) -> PointersRead
 fn drawables(
     cursor: Cursor,
     file: &[u8],
+    size: usize,
     table: &mut [u32],
     kind: u32,
     c: Canvas,
@@ -87,10 +90,10 @@ fn drawables(
     n: u32,
     k: u32,
 ) -> RowsRead
-    requires { ⌜ (length (now file) ≤ fileLimit) × (c .width ≤ 16384) × (c .height ≤ 16384) ⌝ }
+    requires { ⌜ PointerSize size × (length (now file) ≤ fileLimit) × (c .width ≤ 16384) × (c .height ≤ 16384) ⌝ }
     requires { ⌜ (n ≤ 48) × (k + rowsMost kind n ≤ 128) × (length (now table) ≡ tableSize) ⌝ }
-    requires { ⌜ (cursor .number ≡ 0 → at + 4 * n ≤ length (now file)) ⌝ }
-    ensures { λ r. ⌜ Filled cursor (drawables (drawable pointerSize kind c) (wordsAt (now (file .entry)) at n) (rowsIn k (now (table .entry)))) (now (file .entry)) (now (table .entry)) (r .cursor) (r .rows) (now (table .exit)) ⌝ }
+    requires { ⌜ (cursor .number ≡ 0 → at + size * n ≤ length (now file)) ⌝ }
+    ensures { λ r. ⌜ Filled cursor (drawables (drawable size kind c) (pointersAt size (now (file .entry)) at n) (rowsIn k (now (table .entry)))) (now (file .entry)) (now (table .entry)) (r .cursor) (r .rows) (now (table .exit)) ⌝ }
     ensures { λ r. ⌜ r .rows ≤ k + rowsMost kind n ⌝ }
 {
     let mut next = cursor;
@@ -98,10 +101,10 @@ fn drawables(
     let mut link = start(at);
     let mut i: u32 = 0;
     while i < n {
-        let p = link.word(file);
+        let p = link.pointer(file, size);
         link = p.cursor;
         let there = next.jump(p.value as usize);
-        let read = drawable(there, file, table, kind, c, rows);
+        let read = drawable(there, file, size, table, kind, c, rows);
         next = read.cursor;
         rows = read.rows;
         i += 1;
@@ -120,19 +123,20 @@ fn canvas_of(h: Head) -> Canvas
 }
 
 // The rows go into the table from its start.
-pub(crate) fn image(file: &[u8], table: &mut [u32]) -> ImageRead
-    requires { ⌜ (length (now file) ≤ fileLimit) × (length (now table) ≡ tableSize) ⌝ }
-    ensures { λ r. ⌜ Leads fileStart (image pointerSize) (now (file .entry)) (r .cursor) (record { head = r .head; rows = rowsIn (r .rows) (now (table .exit)) }) ⌝ }
+pub(crate) fn image(file: &[u8], size: usize, table: &mut [u32]) -> ImageRead
+    requires { ⌜ PointerSize size × (length (now file) ≤ fileLimit) × (length (now table) ≡ tableSize) ⌝ }
+    ensures { λ r. ⌜ Leads fileStart (image size) (now (file .entry)) (r .cursor) (record { head = r .head; rows = rowsIn (r .rows) (now (table .exit)) }) ⌝ }
     ensures { λ r. ⌜ (r .rows ≤ 128) × (length (now (table .exit)) ≡ tableSize) ⌝ }
 {
     let read = read_head(file);
     let h = read.head;
-    let layers = pointers(read.cursor, file, 48);
-    let channels = pointers(layers.cursor, file, 32);
+    let layers = pointers(read.cursor, file, size, 48);
+    let channels = pointers(layers.cursor, file, size, 32);
     let c = canvas_of(h);
     let first = drawables(
         channels.cursor,
         file,
+        size,
         table,
         1,
         c,
@@ -143,6 +147,7 @@ pub(crate) fn image(file: &[u8], table: &mut [u32]) -> ImageRead
     let all = drawables(
         first.cursor,
         file,
+        size,
         table,
         3,
         c,

@@ -5,6 +5,7 @@ mod image;
 ghost use mathlib.Core.Path.{_≡_};
 ghost use Rattle.xcf_read.specs.Answer.{refusal, Read};
 use crate::image::image;
+use xcf_store::pointer::POINTER_SIZE;
 use xcf_table::FILE_LIMIT;
 use xcf_table::TABLE_SIZE;
 use xcf_table::clear_from;
@@ -47,7 +48,7 @@ pub fn read(file: &[u8], table: &mut [u32]) -> ReadAnswer
     if FILE_LIMIT < file.len() {
         return refusal(15, 0);
     }
-    let x = image(file, table);
+    let x = image(file, POINTER_SIZE, table);
     let end = x.cursor;
     if end.number != 0 {
         clear_from(table, 0);

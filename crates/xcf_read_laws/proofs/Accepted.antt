@@ -12,7 +12,7 @@ use lib.ListN.{length}
 use Rattle.xcf_walk.specs.Walk.{Outcome, got, refused, run}
 use Rattle.xcf_table.specs.Table.{tableSize, fileLimit}
 use Rattle.xcf_laws.proofs.Cases.{by-cases}
-use Rattle.xcf_parse.specs.Hierarchy.{pointerSize}
+use Rattle.xcf_store.specs.Pointer.{pointerSize}
 use Rattle.xcf_read.specs.Image.{Image, image}
 use Rattle.xcf_read.specs.Answer.{listed, Reading, readingOf, reading}
 use Rattle.xcf_read_laws.proofs.Numbers.{refusals-listed}
@@ -49,4 +49,4 @@ module _ (f table : List ℕ) (size : length table ≡ tableSize) (small : lengt
     where
       go : (o : Outcome Image) → o ≡ run (image pointerSize) f 0 → readingOf o .answer .number ≡ 0 → (x : Image) × (q : ℕ) × (got x q ≡ run (image pointerSize) f 0)
       go (got x q) e n = (x, q, e)
-      go (refused m p) e n = absurd (false≢true (rw n at (refusals-listed f m p e)))
+      go (refused m p) e n = absurd (false≢true (rw n at (refusals-listed pointerSize (omega arith) f m p e)))

@@ -19,38 +19,38 @@ use Rattle.xcf_grid.specs.Grid.{tileCount}
 use Rattle.xcf_table.specs.declared.canvas.Canvas.{Canvas}
 use Rattle.xcf_parse.specs.declared.drawable.Layer.{Layer}
 use Rattle.xcf_parse.specs.declared.drawable.Owner.{Owner}
-use Rattle.xcf_parse.specs.Hierarchy.{pointerSize, agrees, pointer, rest, tiles, hierarchy}
+use Rattle.xcf_parse.specs.Hierarchy.{agrees, pointer, rest, tiles, hierarchy}
 use Rattle.xcf_row.specs.Row.{channelRow, maskOwner, layerRow, channelOwner}
 use Rattle.xcf_read.specs.Drawable.{channelRows, maskRows, layerRows, canvasChannelRows}
 use Rattle.xcf_read.specs.Image.{drawables, Image, image, structureByte}
 use Rattle.xcf_walk_laws.proofs.Ensures.{Ensures, ensures-done, ensures-weaken, ensures-bind, ensures-next, ensures-cond}
 use Rattle.xcf_read_laws.proofs.Ranges.{Side, Depth, ensures-layer, ensures-channel, ensures-head, ensures-pointers}
 
--- the walk over so many tile pointers was taken at their place, over bytes in S
-pub record PointersRead (f : List ℕ) (S : ℕ → Type 0) (count place : ℕ) : Type 0 where
+-- the walk over so many tile pointers of `size` bytes was taken at their place, over bytes in S
+pub record PointersRead (size : ℕ) (f : List ℕ) (S : ℕ → Type 0) (count place : ℕ) : Type 0 where
   pub end : ℕ
-  pub pointers : got tt end ≡ run (tiles pointerSize count 0) f place
+  pub pointers : got tt end ≡ run (tiles size count 0) f place
   pub passed : (i : ℕ) → place ≤ i → i < end → S i
 
-pub record RowRead (f : List ℕ) (structure : ℕ → Type 0) (r : Row) : Type 0 where
+pub record RowRead (size : ℕ) (f : List ℕ) (structure : ℕ → Type 0) (r : Row) : Type 0 where
   pub kind : (1 ≤ r .kind) × (r .kind ≤ 3)
   pub width : (1 ≤ r .width) × (r .width ≤ 16384)
   pub height : (1 ≤ r .height) × (r .height ≤ 16384)
   pub depth : (1 ≤ r .depth) × (r .depth ≤ 4)
   pub count : r .count ≡ tileCount (r .width) (r .height)
-  pub tiles : PointersRead f structure (r .count) (r .tiles)
+  pub tiles : PointersRead size f structure (r .count) (r .tiles)
 
-pub record ImageRead (f : List ℕ) (x : Image) : Type 0 where
+pub record ImageRead (size : ℕ) (f : List ℕ) (x : Image) : Type 0 where
   pub few : x .rows .count ≤ 128
-  pub size : length (x .rows .numbers) ≡ rowSize * x .rows .count
+  pub long : length (x .rows .numbers) ≡ rowSize * x .rows .count
   pub compression : x .head .compression ≤ 1
-  pub row : (k : ℕ) → k < x .rows .count → RowRead f (structureByte f) (rowIn (x .rows .numbers) (rowSize * k))
+  pub row : (k : ℕ) → k < x .rows .count → RowRead size f (structureByte size f) (rowIn (x .rows .numbers) (rowSize * k))
 
 -- rows that were read so, at most so many
-record RowsRead (f : List ℕ) (S : ℕ → Type 0) (most : ℕ) (rows : Rows) : Type 0 where
+record RowsRead (size : ℕ) (f : List ℕ) (S : ℕ → Type 0) (most : ℕ) (rows : Rows) : Type 0 where
   few : rows .count ≤ most
-  size : length (rows .numbers) ≡ rowSize * rows .count
-  row : (k : ℕ) → k < rows .count → RowRead f S (rowIn (rows .numbers) (rowSize * k))
+  long : length (rows .numbers) ≡ rowSize * rows .count
+  row : (k : ℕ) → k < rows .count → RowRead size f S (rowIn (rows .numbers) (rowSize * k))
 
 straight-tiles : (size n before : ℕ) → Straight (tiles size n before)
 unfolding tiles
@@ -59,86 +59,86 @@ straight-tiles size (suc n) before =
     straight-bind _ straight-here λ at. straight-bind _ straight-length λ end. straight-bind _ (straight-number size) λ p.
     straight-bind _ (straight-must _ _ _) λ _. straight-tiles size n p
 
-module _ {f : List ℕ} {S : ℕ → Type 0} where
-  no-rows-read : RowsRead f S 0 noRows
-  no-rows-read = record { few = omega arith; size = refl; row = λ k h. absurd (omega arith) }
+module _ {size : ℕ} {f : List ℕ} {S : ℕ → Type 0} where
+  no-rows-read : RowsRead size f S 0 noRows
+  no-rows-read = record { few = omega arith; long = refl; row = λ k h. absurd (omega arith) }
 
-  more-rows-read : {m n : ℕ} {rows : Rows} → m ≤ n → RowsRead f S m rows → RowsRead f S n rows
-  more-rows-read le x = record { few = omega (arith, x .few); size = x .size; row = x .row }
+  more-rows-read : {m n : ℕ} {rows : Rows} → m ≤ n → RowsRead size f S m rows → RowsRead size f S n rows
+  more-rows-read le x = record { few = omega (arith, x .few); long = x .long; row = x .row }
 
-  row-read-added : {most : ℕ} {rows : Rows} {r : Row} → RowsRead f S most rows → RowRead f S r → RowsRead f S (most + 1) (addRow rows r)
+  row-read-added : {most : ℕ} {rows : Rows} {r : Row} → RowsRead size f S most rows → RowRead size f S r → RowsRead size f S (most + 1) (addRow rows r)
   unfolding addRow
   row-read-added {rows = rows} {r = r} x y = record {
     few = omega (arith, x .few);
-    size = simp length-append (omega (arith, x .size));
+    long = simp length-append (omega (arith, x .long));
     row = λ k h.
         ⊎-elim
-        (λ below. rw (row-in-front (rows .numbers) (rowNumbers r) (rowSize * k) (omega (arith, x .size))) (x .row k below))
+        (λ below. rw (row-in-front (rows .numbers) (rowNumbers r) (rowSize * k) (omega (arith, x .long))) (x .row k below))
         (λ above.
-        let e : rowSize * k ≡ length (rows .numbers) = omega (arith, x .size) in
+        let e : rowSize * k ≡ length (rows .numbers) = omega (arith, x .long) in
         rw (e, row-added (rows .numbers) r) y)
         (below-or k (rows .count));
   }
 
   -- a drawable's row, from its numbers and its tiles
   row-read : {r : Row} → (1 ≤ r .kind) × (r .kind ≤ 3) → Side (r .width) → Side (r .height) → Depth (r .depth) → r .count ≡ tileCount (r .width) (r .height)
-      → PointersRead f S (tileCount (r .width) (r .height)) (r .tiles) → RowRead f S r
+      → PointersRead size f S (tileCount (r .width) (r .height)) (r .tiles) → RowRead size f S r
   row-read k w h d e t = record { kind = k; width = w; height = h; depth = d; count = e; tiles = rw e t }
 
   -- what a hierarchy ends with
-  ensures-tiles : (count : ℕ) → Ensures f S (PointersRead f S count) (here >>= λ place. tiles pointerSize count 0 >>= λ _. done place)
+  ensures-tiles : (count : ℕ) → Ensures f S (PointersRead size f S count) (here >>= λ place. tiles size count 0 >>= λ _. done place)
   unfolding run PassedOver here
   ensures-tiles count = record {
     holds = λ at e s.
-        let walk = tiles pointerSize count 0 in
+        let walk = tiles size count 0 in
         let t = parted walk (λ _. done at) f at e in
         rw (got-done f (t .place) (t .rest) .1) (record {
           end = t .place;
           pointers = t .first;
-          passed = λ i lo hi. s i (passed-first (λ _. done at) f walk at i (all-passed f at (straight-tiles pointerSize _ 0) (t .first) i lo hi));
+          passed = λ i lo hi. s i (passed-first (λ _. done at) f walk at i (all-passed f at (straight-tiles size _ 0) (t .first) i lo hi));
         });
   }
 
-  ensures-hierarchy : (width height depth : ℕ) → Ensures f S (PointersRead f S (tileCount width height)) (hierarchy pointerSize width height depth)
+  ensures-hierarchy : (width height depth : ℕ) → Ensures f S (PointersRead size f S (tileCount width height)) (hierarchy size width height depth)
   unfolding hierarchy
   ensures-hierarchy width height depth =
-      ensures-next (agrees width) _ λ _. ensures-next (agrees height) _ λ _. ensures-next (agrees depth) _ λ _. ensures-next (pointer pointerSize) _ λ level.
-      ensures-next (rest pointerSize) _ λ _. ensures-next (jump level) _ λ _. ensures-next (agrees width) _ λ _. ensures-next (agrees height) _ λ _.
+      ensures-next (agrees width) _ λ _. ensures-next (agrees height) _ λ _. ensures-next (agrees depth) _ λ _. ensures-next (pointer size) _ λ level.
+      ensures-next (rest size) _ λ _. ensures-next (jump level) _ λ _. ensures-next (agrees width) _ λ _. ensures-next (agrees height) _ λ _.
       ensures-tiles (tileCount width height)
 
-  ensures-channel-rows : {most : ℕ} {rows : Rows} (o : Owner) → (1 ≤ o .kind) × (o .kind ≤ 3) → RowsRead f S most rows
-      → Ensures f S (RowsRead f S (most + 1)) (channelRows pointerSize o rows)
+  ensures-channel-rows : {most : ℕ} {rows : Rows} (o : Owner) → (1 ≤ o .kind) × (o .kind ≤ 3) → RowsRead size f S most rows
+      → Ensures f S (RowsRead size f S (most + 1)) (channelRows size o rows)
   unfolding channelRows channelRow
   ensures-channel-rows o k x =
-      ensures-bind _ (ensures-channel pointerSize o) λ c s. ensures-next (jump _) _ λ _. ensures-bind _ (ensures-hierarchy _ _ 1) λ place t.
+      ensures-bind _ (ensures-channel size o) λ c s. ensures-next (jump _) _ λ _. ensures-bind _ (ensures-hierarchy _ _ 1) λ place t.
       ensures-done (row-read-added x (row-read k (s .0) (s .1) (omega arith) refl t))
 
-  ensures-mask-rows : {most : ℕ} {rows : Rows} (l : Layer) (k : ℕ) → RowsRead f S most rows → Ensures f S (RowsRead f S (most + 1)) (maskRows pointerSize l k rows)
+  ensures-mask-rows : {most : ℕ} {rows : Rows} (l : Layer) (k : ℕ) → RowsRead size f S most rows → Ensures f S (RowsRead size f S (most + 1)) (maskRows size l k rows)
   unfolding maskRows maskOwner
   ensures-mask-rows l k x =
       ensures-cond (eqb (l .mask) 0) (ensures-done (more-rows-read (omega arith) x)) (ensures-next (jump _) _ λ _. ensures-channel-rows _ (omega arith) x)
 
-  ensures-layer-rows : {most : ℕ} {rows : Rows} (c : Canvas) → RowsRead f S most rows → Ensures f S (RowsRead f S (most + 2)) (layerRows pointerSize c rows)
+  ensures-layer-rows : {most : ℕ} {rows : Rows} (c : Canvas) → RowsRead size f S most rows → Ensures f S (RowsRead size f S (most + 2)) (layerRows size c rows)
   unfolding layerRows layerRow
   ensures-layer-rows c x =
-      ensures-bind _ (ensures-layer pointerSize _) λ l s. ensures-next (jump _) _ λ _. ensures-bind _ (ensures-hierarchy _ _ _) λ place t.
+      ensures-bind _ (ensures-layer size _) λ l s. ensures-next (jump _) _ λ _. ensures-bind _ (ensures-hierarchy _ _ _) λ place t.
       ensures-weaken (λ _. more-rows-read (omega arith)) (ensures-mask-rows l _ (row-read-added x (row-read (omega arith) (s .width) (s .height) (s .depth) refl t)))
 
   -- drawables that each add at most so many rows
-  ensures-drawables : (one : Rows → Walk Rows) (step all : ℕ) → ((n : ℕ) (rows : Rows) → RowsRead f S n rows → Ensures f S (RowsRead f S (n + step)) (one rows))
-      → (ps : List ℕ) {most : ℕ} {rows : Rows} → most + step * length ps ≤ all → RowsRead f S most rows → Ensures f S (RowsRead f S all) (drawables one ps rows)
+  ensures-drawables : (one : Rows → Walk Rows) (step all : ℕ) → ((n : ℕ) (rows : Rows) → RowsRead size f S n rows → Ensures f S (RowsRead size f S (n + step)) (one rows))
+      → (ps : List ℕ) {most : ℕ} {rows : Rows} → most + step * length ps ≤ all → RowsRead size f S most rows → Ensures f S (RowsRead size f S all) (drawables one ps rows)
   unfolding drawables
   ensures-drawables one step all h [] le x = ensures-done (more-rows-read (omega arith) x)
   ensures-drawables one step all h (p ∷ ps) le x = ensures-next (jump p) _ λ _. ensures-bind _ (h _ _ x) λ next y. ensures-drawables one step all h ps (omega arith) y
 
-ensures-image : (f : List ℕ) → Ensures f (structureByte f) (ImageRead f) (image pointerSize)
+ensures-image : (size : ℕ) (f : List ℕ) → Ensures f (structureByte size f) (ImageRead size f) (image size)
 unfolding image canvasChannelRows channelOwner
-ensures-image f =
-    ensures-bind _ ensures-head λ h c. ensures-bind _ (ensures-pointers pointerSize 48) λ layers l. ensures-bind _ (ensures-pointers pointerSize 32) λ channels m.
+ensures-image size f =
+    ensures-bind _ ensures-head λ h c. ensures-bind _ (ensures-pointers size 48) λ layers l. ensures-bind _ (ensures-pointers size 32) λ channels m.
     ensures-bind _ (ensures-drawables _ 2 96 (λ _ _. ensures-layer-rows _) layers (omega arith) no-rows-read) λ first x.
     ensures-bind _ (ensures-drawables _ 1 128 (λ _ _. ensures-channel-rows _ (omega arith)) channels (omega arith) x) λ all y.
-    ensures-done (record { few = y .few; size = y .size; compression = c; row = y .row })
+    ensures-done (record { few = y .few; long = y .long; compression = c; row = y .row })
 
-pub accepted-rows : (f : List ℕ) {x : Image} {q : ℕ} → got x q ≡ run (image pointerSize) f 0 → ImageRead f x
+pub accepted-rows : (size : ℕ) (f : List ℕ) {x : Image} {q : ℕ} → got x q ≡ run (image size) f 0 → ImageRead size f x
 unfolding structureByte
-accepted-rows f e = ensures-image f .holds 0 e (λ i p. p)
+accepted-rows size f e = ensures-image size f .holds 0 e (λ i p. p)

@@ -1,11 +1,10 @@
 -- The reader's refusals have the numbers of document 01: structure by structure, from the numbers of its fields.
 -- Assumes nothing.
-use Prim.Native.Nat.{ℕ, zero, suc}
+use Prim.Native.Nat.{ℕ, zero, suc, _≤_}
 use mathlib.Core.Path.{_≡_, refl}
 use mathlib.Core.List.{List, [], _∷_}
 use mathlib.Core.Bool.{true}
 use lib.Dec.{eqb}
-use native.Mathlib.Omega.{arith}
 use Rattle.xcf_walk.specs.Walk.{Walk, refused, run}
 use Rattle.xcf_walk.specs.Fields.{number, word, string}
 use Rattle.xcf_property.specs.declared.Properties.{Properties}
@@ -19,7 +18,7 @@ use Rattle.xcf_table.specs.declared.canvas.Canvas.{Canvas}
 use Rattle.xcf_parse.specs.declared.drawable.Layer.{Layer}
 use Rattle.xcf_parse.specs.declared.drawable.Owner.{Owner}
 use Rattle.xcf_parse.specs.Header.{header}
-use Rattle.xcf_parse.specs.Hierarchy.{pointerSize, agrees, pointer, restTurn, rest, tiles, hierarchy}
+use Rattle.xcf_parse.specs.Hierarchy.{agrees, pointer, restTurn, rest, tiles, hierarchy}
 use Rattle.xcf_parse.specs.Drawable.{side, sideLike, layerType, fields, layer, channel}
 use Rattle.xcf_read.specs.Drawable.{channelRows, maskRows, layerRows, canvasChannelRows}
 use Rattle.xcf_parse.specs.Image.{baseType, head}
@@ -84,12 +83,12 @@ unfolding pointer listed
 numbered-pointer size =
     refuses-bind _ refuses-here λ at. refuses-bind _ (numbered-number size) λ p. refuses-bind _ (refuses-must _ 9 at refl) λ _. refuses-done
 
-numbered-rest : Numbered (rest pointerSize)
+numbered-rest : (size : ℕ) → 1 ≤ size → Numbered (rest size)
 unfolding rest restTurn
-numbered-rest =
-    refuses-loop (restTurn pointerSize)
-    (λ u. refuses-bind _ (numbered-number pointerSize) λ p. refuses-done)
-    (λ u. advances-first (number pointerSize) _ (straight-bind _ (straight-number pointerSize) λ p. straight-done) (advances-number pointerSize (omega arith))) tt
+numbered-rest size some =
+    refuses-loop (restTurn size)
+    (λ u. refuses-bind _ (numbered-number size) λ p. refuses-done)
+    (λ u. advances-first (number size) _ (straight-bind _ (straight-number size) λ p. straight-done) (advances-number size some)) tt
 
 pub numbered-tiles : (size n before : ℕ) → Numbered (tiles size n before)
 unfolding tiles listed
@@ -98,13 +97,13 @@ numbered-tiles size (suc n) before =
     refuses-bind _ refuses-here λ at. refuses-bind _ refuses-length λ end. refuses-bind _ (numbered-number size) λ p.
     refuses-bind _ (refuses-must _ 13 at refl) λ _. numbered-tiles size n p
 
-numbered-hierarchy : (width height depth : ℕ) → Numbered (hierarchy pointerSize width height depth)
+numbered-hierarchy : (size : ℕ) → 1 ≤ size → (width height depth : ℕ) → Numbered (hierarchy size width height depth)
 unfolding hierarchy
-numbered-hierarchy width height depth =
+numbered-hierarchy size some width height depth =
     refuses-bind _ (numbered-agrees width) λ _. refuses-bind _ (numbered-agrees height) λ _. refuses-bind _ (numbered-agrees depth) λ _.
-    refuses-bind _ (numbered-pointer pointerSize) λ level. refuses-bind _ numbered-rest λ _. refuses-bind _ (refuses-jump level) λ _.
+    refuses-bind _ (numbered-pointer size) λ level. refuses-bind _ (numbered-rest size some) λ _. refuses-bind _ (refuses-jump level) λ _.
     refuses-bind _ (numbered-agrees width) λ _. refuses-bind _ (numbered-agrees height) λ _. refuses-bind _ refuses-here λ place.
-    refuses-bind _ (numbered-tiles pointerSize _ 0) λ _. refuses-done
+    refuses-bind _ (numbered-tiles size _ 0) λ _. refuses-done
 
 numbered-side : Numbered side
 unfolding side listed
@@ -119,32 +118,32 @@ unfolding layerType listed
 numbered-layer-type base =
     refuses-bind _ refuses-here λ at. refuses-bind _ numbered-word λ t. refuses-bind _ (refuses-must _ 10 at refl) λ _. refuses-done
 
-numbered-fields : (kind : ℕ) → Numbered (fields pointerSize kind)
+numbered-fields : (size kind : ℕ) → Numbered (fields size kind)
 unfolding fields
-numbered-fields kind =
+numbered-fields size kind =
     refuses-bind _ numbered-string λ name. refuses-bind _ refuses-here λ list. refuses-bind _ (numbered-properties kind 0) λ p.
-    refuses-bind _ (numbered-pointer pointerSize) λ h. refuses-done
+    refuses-bind _ (numbered-pointer size) λ h. refuses-done
 
-numbered-layer : (base : ℕ) → Numbered (layer pointerSize base)
+numbered-layer : (size base : ℕ) → Numbered (layer size base)
 unfolding layer
-numbered-layer base =
+numbered-layer size base =
     refuses-bind _ numbered-side λ width. refuses-bind _ numbered-side λ height. refuses-bind _ (numbered-layer-type base) λ form.
-    refuses-bind _ (numbered-fields 1) λ x. refuses-bind _ (numbered-number pointerSize) λ mask. refuses-done
+    refuses-bind _ (numbered-fields size 1) λ x. refuses-bind _ (numbered-number size) λ mask. refuses-done
 
-numbered-channel-rows : (o : Owner) (rows : Rows) → Numbered (channelRows pointerSize o rows)
+numbered-channel-rows : (size : ℕ) → 1 ≤ size → (o : Owner) (rows : Rows) → Numbered (channelRows size o rows)
 unfolding channelRows channel
-numbered-channel-rows o rows =
-    refuses-bind _ (refuses-bind _ (numbered-side-like _) λ _. refuses-bind _ (numbered-side-like _) λ _. numbered-fields _) λ x.
-    refuses-bind _ (refuses-jump _) λ _. refuses-bind _ (numbered-hierarchy _ _ 1) λ tiles. refuses-done
+numbered-channel-rows size some o rows =
+    refuses-bind _ (refuses-bind _ (numbered-side-like _) λ _. refuses-bind _ (numbered-side-like _) λ _. numbered-fields size _) λ x.
+    refuses-bind _ (refuses-jump _) λ _. refuses-bind _ (numbered-hierarchy size some _ _ 1) λ tiles. refuses-done
 
-numbered-mask-rows : (x : Layer) (k : ℕ) (rows : Rows) → Numbered (maskRows pointerSize x k rows)
+numbered-mask-rows : (size : ℕ) → 1 ≤ size → (x : Layer) (k : ℕ) (rows : Rows) → Numbered (maskRows size x k rows)
 unfolding maskRows
-numbered-mask-rows x k rows = refuses-cond (eqb (x .mask) 0) refuses-done (refuses-bind _ (refuses-jump _) λ _. numbered-channel-rows _ rows)
+numbered-mask-rows size some x k rows = refuses-cond (eqb (x .mask) 0) refuses-done (refuses-bind _ (refuses-jump _) λ _. numbered-channel-rows size some _ rows)
 
-numbered-layer-rows : (c : Canvas) (rows : Rows) → Numbered (layerRows pointerSize c rows)
+numbered-layer-rows : (size : ℕ) → 1 ≤ size → (c : Canvas) (rows : Rows) → Numbered (layerRows size c rows)
 unfolding layerRows
-numbered-layer-rows c rows =
-    refuses-bind _ (numbered-layer _) λ x. refuses-bind _ (refuses-jump _) λ _. refuses-bind _ (numbered-hierarchy _ _ _) λ tiles. numbered-mask-rows x _ _
+numbered-layer-rows size some c rows =
+    refuses-bind _ (numbered-layer size _) λ x. refuses-bind _ (refuses-jump _) λ _. refuses-bind _ (numbered-hierarchy size some _ _ _) λ tiles. numbered-mask-rows size some x _ _
 
 numbered-drawables : (one : Rows → Walk Rows) → ((rows : Rows) → Numbered (one rows)) → (ps : List ℕ) (rows : Rows) → Numbered (drawables one ps rows)
 unfolding drawables
@@ -170,12 +169,12 @@ numbered-head =
     refuses-bind _ numbered-header λ version. refuses-bind _ numbered-side λ width. refuses-bind _ numbered-side λ height.
     refuses-bind _ (numbered-base-type version) λ base. refuses-bind _ (numbered-properties 0 _) λ p. refuses-done
 
-numbered-image : Numbered (image pointerSize)
+numbered-image : (size : ℕ) → 1 ≤ size → Numbered (image size)
 unfolding image canvasChannelRows
-numbered-image =
-    refuses-bind _ numbered-head λ h. refuses-bind _ (numbered-pointers pointerSize 48) λ layers. refuses-bind _ (numbered-pointers pointerSize 32) λ channels.
-    refuses-bind _ (numbered-drawables _ (numbered-layer-rows _) layers _) λ first.
-    refuses-bind _ (numbered-drawables _ (λ rows. numbered-channel-rows _ rows) channels first) λ all. refuses-done
+numbered-image size some =
+    refuses-bind _ numbered-head λ h. refuses-bind _ (numbered-pointers size 48) λ layers. refuses-bind _ (numbered-pointers size 32) λ channels.
+    refuses-bind _ (numbered-drawables _ (numbered-layer-rows size some _) layers _) λ first.
+    refuses-bind _ (numbered-drawables _ (λ rows. numbered-channel-rows size some _ rows) channels first) λ all. refuses-done
 
-pub refusals-listed : (f : List ℕ) (n p : ℕ) → refused n p ≡ run (image pointerSize) f 0 → listed refusals n ≡ true
-refusals-listed f n p e = numbered-image .number f 0 e
+pub refusals-listed : (size : ℕ) → 1 ≤ size → (f : List ℕ) (n p : ℕ) → refused n p ≡ run (image size) f 0 → listed refusals n ≡ true
+refusals-listed size some f n p e = numbered-image size some .number f 0 e

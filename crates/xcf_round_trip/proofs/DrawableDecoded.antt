@@ -9,7 +9,7 @@ use borrow.Author.Tests.{le-leb, eq-eqb}
 use lib.ListN.{length, replicate}
 use Rattle.xcf_table.specs.Table.{tableSize, rowAt}
 use Rattle.xcf_range.proofs.Bounds.{bounds-within}
-use Rattle.xcf_parse.specs.Hierarchy.{pointerSize}
+use Rattle.xcf_store.specs.Pointer.{pointerSize}
 use Rattle.xcf_window.specs.Usable.{inRange, inFile, usableRow, fits, rowRefusal}
 use Rattle.xcf_decode.specs.Answer.{refusal, drawableRefusal, decoding}
 use Rattle.xcf_window.proofs.TilePointers.{tiles-inside}
@@ -49,7 +49,7 @@ module _ {f : List ℕ} {p : ℕ} (d : Drawable) (fine : Writable d) (kind : (1 
 pub drawable-decoded : (d : Drawable) (p : ℕ) (f table : List ℕ) (k : ℕ) (buffer marks : List ℕ)
     → Writable d → (1 ≤ d .row .kind) × (d .row .kind ≤ 3) → length f ≤ 1073741824 → 0 < p → Stands f p (drawableBytes d p)
     → length table ≡ tableSize → rowAt table k ≡ readRow d p → fits (d .row) (length buffer) (length marks) ≡ true
-    → decoding f table k 1 buffer marks
+    → decoding pointerSize f table k 1 buffer marks
     ≡ record { answer = record { number = 0; place = 0; marked = 0 }; pixels = d .pixels; marks = replicate (d .row .count) 0 }
 unfolding decoding
 drawable-decoded d p f table k buffer marks fine kind small some s size row fit =

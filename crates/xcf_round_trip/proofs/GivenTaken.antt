@@ -10,7 +10,7 @@ use Rattle.xcf_walk.specs.Walk.{got, run}
 use Rattle.xcf_laws.proofs.Cases.{below-or}
 use Rattle.xcf_table.specs.declared.Row.{Row}
 use Rattle.xcf_table.specs.Table.{rowAt, tableOf}
-use Rattle.xcf_parse.specs.Hierarchy.{pointerSize}
+use Rattle.xcf_store.specs.Pointer.{pointerSize}
 use Rattle.xcf_read.specs.Image.{Image, canvasOf, image}
 use Rattle.xcf_read.specs.Answer.{Reading, readingOf, reading}
 use Rattle.xcf_table.proofs.Tables.{table-row, table-unused}
@@ -30,21 +30,21 @@ module _ (file table : List ℕ) (names : ℕ) (x : Image) (q : ℕ) (walked : g
     (unnamed : (k : ℕ) → k < tableRows → rowAt table k .kind ≡ 0 → rowAt table k .name ≡ 0) (once : RowsExcepted table) where
   shown : Shown table (x .rows)
   shown =
-      let i = accepted-rows file walked in
+      let i = accepted-rows pointerSize file walked in
       record {
         few = i .few;
-        row = λ k h. subst (Like (rowAt table k)) (table-row (x .rows) (i .few) (i .size) k h) (same k (omega (arith, i .few)));
+        row = λ k h. subst (Like (rowAt table k)) (table-row (x .rows) (i .few) (i .long) k h) (same k (omega (arith, i .few)));
       }
 
   image-taken : badRow (canvasOf (x .head)) names table ≡ tableRows
   image-taken =
       let c = canvasOf (x .head) in
-      let i = accepted-rows file walked in
+      let i = accepted-rows pointerSize file walked in
       none-bad c names table λ k h.
       ⊎-elim
-      (ensures-taken names table excepted once {S = λ _. Unit {0}} .holds 0 walked (λ _ _. tt) shown k)
+      (ensures-taken pointerSize names table excepted once {S = λ _. Unit {0}} .holds 0 walked (λ _ _. tt) shown k)
       (λ behind.
-      let like = subst (Like (rowAt table k)) (table-unused (x .rows) (i .few) (i .size) k behind h) (same k h) in
+      let like = subst (Like (rowAt table k)) (table-unused (x .rows) (i .few) (i .long) k behind h) (same k h) in
       unused-taken c names table excepted once k h like (unnamed k h (ap (λ (r : Row). r .kind) like)))
       (below-or k (x .rows .count))
 

@@ -8,6 +8,7 @@ use native.Mathlib.Omega.{arith}
 use borrow.Author.Tests.{lt-ltb, eq-eqb, ne-eqb}
 use lib.Dec.{eqb}
 use lib.ListN.{length}
+use Rattle.xcf_store.specs.Pointer.{pointerSize}
 use Rattle.xcf_walk.specs.Walk.{turns, loop}
 use Rattle.xcf_walk.specs.Fields.{word}
 use Rattle.xcf_table.specs.declared.Row.{Row}
@@ -25,19 +26,19 @@ module _ {f : List ℕ} {p : ℕ} (n : ℕ) (ns : List ℕ) (low : n < 429496729
   unfolding agrees word
   reads-agrees = then-here _ (then _ (reads-number n ns s low) (reads-must (eqb n n) 10 p (eq-eqb n n refl)))
 
-  pub reads-pointer : 0 < n → Reads (pointer 4) f p n (p + 4)
+  pub reads-pointer : 0 < n → Reads (pointer pointerSize) f p n (p + 4)
   unfolding pointer
   reads-pointer some =
       then-here _ (then _ (reads-number n ns s low) (then _ (reads-must _ 9 p (rw (ne-eqb n 0 (λ e. omega arith)))) ends))
 
 -- a 0 where further pointers could stand
-reads-rest : {f : List ℕ} {p : ℕ} → Stands f p (words (0 ∷ [])) → Reads (rest 4) f p tt (p + 4)
+reads-rest : {f : List ℕ} {p : ℕ} → Stands f p (words (0 ∷ [])) → Reads (rest pointerSize) f p tt (p + 4)
 unfolding rest loop turns restTurn
 reads-rest s = then-length _ (then _ (then _ (reads-number 0 [] s (omega arith)) ends) ends)
 
 -- tile pointers that rise
 pub reads-tiles : {f : List ℕ} {p : ℕ} (before : ℕ) (ps : List ℕ) → length f ≤ 1073741824 → Rises before ps (length f)
-    → Stands f p (words (ps ++ (0 ∷ []))) → Gives (tiles 4 (length ps) before) f p tt
+    → Stands f p (words (ps ++ (0 ∷ []))) → Gives (tiles pointerSize (length ps) before) f p tt
 unfolding tiles Rises
 reads-tiles before [] small rise s =
     reads-gives (then-here _ (then _ (reads-number 0 [] s (omega arith)) (reads-must _ 13 _ refl)))

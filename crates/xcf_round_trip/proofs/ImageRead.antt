@@ -12,6 +12,7 @@ use borrow.Author.Tests.{le-leb, ne-eqb}
 use lib.Dec.{ltb}
 use lib.ListN.{length, getD}
 use lib.Seq.{take-length}
+use Rattle.xcf_store.specs.Pointer.{pointerSize}
 use Rattle.xcf_walk.specs.Fields.{word}
 use Rattle.xcf_table.specs.Table.{noRows}
 use Rattle.xcf_range.proofs.Bounds.{within-bounds}
@@ -169,7 +170,7 @@ module _ (c : Canvas) (table names pixels : List ℕ) where
 
   pub image-read : ((i : ℕ) → getD table i 0 < 4294967296) → InputAccepted c table (length names) (length pixels)
       → length file ≤ 1073741824
-      → Gives (image 4) file 0 (record { head = headOf c (versionOf ds); rows = addAll noRows ds start })
+      → Gives (image pointerSize) file 0 (record { head = headOf c (versionOf ds); rows = addAll noRows ds start })
   unfolding image canvasOf
   image-read low a small =
       let layers = placesOf 1 ds start in

@@ -15,7 +15,7 @@ use Rattle.xcf_table.specs.Table.{rowAt, Rows, noRows, addRow}
 use Rattle.xcf_laws.proofs.Cases.{by-cases}
 use Rattle.xcf_table.specs.declared.canvas.Canvas.{Canvas}
 use Rattle.xcf_parse.specs.declared.drawable.Layer.{Layer}
-use Rattle.xcf_parse.specs.Hierarchy.{pointerSize, hierarchy}
+use Rattle.xcf_parse.specs.Hierarchy.{hierarchy}
 use Rattle.xcf_table.specs.Canvas.{depthOf}
 use Rattle.xcf_row.specs.Row.{layerRow, maskOwner, channelOwner}
 use Rattle.xcf_read.specs.Drawable.{channelRows, maskRows, layerRows, canvasChannelRows}
@@ -47,42 +47,42 @@ none-taken c names table = record { size = refl; taken = λ _. taken-none c name
 abbrev pub ImageTaken : ℕ → List ℕ → Image → Type 0
 ImageTaken names table x = Shown table (x .rows) → (k : ℕ) → k < x .rows .count → usable (canvasOf (x .head)) names table k ≡ true
 
-module _ (names : ℕ) (table : List ℕ) (excepted : (k : ℕ) → k < tableRows → RowExcepted names (rowAt table k))
+module _ (size : ℕ) (names : ℕ) (table : List ℕ) (excepted : (k : ℕ) → k < tableRows → RowExcepted names (rowAt table k))
     (once : RowsExcepted table) {f : List ℕ} {S : ℕ → Type 0} where
   module _ (c : Canvas) where
     channel-rows : (l m : ℕ) (rows : Rows) → m < 32 → RowsTaken c names table l m rows
-        → Ensures f S (RowsTaken c names table l (m + 1)) (canvasChannelRows pointerSize c rows)
+        → Ensures f S (RowsTaken c names table l (m + 1)) (canvasChannelRows size c rows)
     unfolding canvasChannelRows channelRows channelOwner
     channel-rows l m rows few t =
         let o = channelOwner c (rows .count) in
-        ensures-bind _ (channel-given pointerSize o refl) λ y given. ensures-next (jump _) _ λ _.
-        ensures-next (hierarchy pointerSize (o .width) (o .height) 1) _ λ tiles.
+        ensures-bind _ (channel-given size o refl) λ y given. ensures-next (jump _) _ λ _.
+        ensures-next (hierarchy size (o .width) (o .height) 1) _ λ tiles.
         ensures-done (add-channel c names table excepted once rows y tiles few given t)
 
     mask-rows : (l : ℕ) (rows : Rows) (x : Layer) (others : ℕ) → l < 48 → LayerGiven (c .base) x → RowsTaken c names table l 0 rows
         → Ensures f S (RowsTaken c names table (l + 1) 0)
-        (maskRows pointerSize x (rows .count) (addRow rows (layerRow x others (rows .count))))
+        (maskRows size x (rows .count) (addRow rows (layerRow x others (rows .count))))
     unfolding maskRows channelRows maskOwner
     mask-rows l rows x others few given t =
         let o = maskOwner x (rows .count) in
         by-cases (Ensures f S (RowsTaken c names table (l + 1) 0)) (eqb (x .mask) 0) _ _
         (λ e. ensures-done (add-layer c names table excepted once rows x others few given (eqb-true _ _ e) t))
-        (λ _. ensures-next (jump _) _ λ _. ensures-bind _ (channel-given pointerSize o refl) λ y below. ensures-next (jump _) _ λ _.
-        ensures-next (hierarchy pointerSize (o .width) (o .height) 1) _ λ tiles.
+        (λ _. ensures-next (jump _) _ λ _. ensures-bind _ (channel-given size o refl) λ y below. ensures-next (jump _) _ λ _.
+        ensures-next (hierarchy size (o .width) (o .height) 1) _ λ tiles.
         ensures-done (add-layer-mask c names table excepted once rows x y tiles others few given below t))
 
     layer-rows : (l : ℕ) (rows : Rows) → l < 48 → RowsTaken c names table l 0 rows
-        → Ensures f S (RowsTaken c names table (l + 1) 0) (layerRows pointerSize c rows)
+        → Ensures f S (RowsTaken c names table (l + 1) 0) (layerRows size c rows)
     unfolding layerRows
     layer-rows l rows few t =
-        ensures-bind _ (layer-given pointerSize (c .base)) λ x given. ensures-next (jump _) _ λ _.
-        ensures-next (hierarchy pointerSize (x .width) (x .height) (depthOf (x .form))) _ λ tiles. mask-rows l rows x tiles few given t
+        ensures-bind _ (layer-given size (c .base)) λ x given. ensures-next (jump _) _ λ _.
+        ensures-next (hierarchy size (x .width) (x .height) (depthOf (x .form))) _ λ tiles. mask-rows l rows x tiles few given t
 
-  pub ensures-taken : Ensures f S (ImageTaken names table) (image pointerSize)
+  pub ensures-taken : Ensures f S (ImageTaken names table) (image size)
   unfolding image
   ensures-taken =
-      ensures-next head _ λ h. ensures-bind _ (ensures-pointers pointerSize 48) λ layers few.
-      ensures-bind _ (ensures-pointers pointerSize 32) λ channels less.
+      ensures-next head _ λ h. ensures-bind _ (ensures-pointers size 48) λ layers few.
+      ensures-bind _ (ensures-pointers size 32) λ channels less.
       let c = canvasOf h in
       ensures-bind _ (ensures-drawables (λ l. RowsTaken c names table l 0) _ 48 (layer-rows c) layers 0 (omega arith) (none-taken c names table))
       λ first x.

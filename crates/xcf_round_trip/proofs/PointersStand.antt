@@ -6,7 +6,8 @@ use mathlib.Core.Path.{_≡_, _∙_}
 use mathlib.Core.List.{List, [], _∷_, _++_}
 use native.Mathlib.Omega.{arith}
 use lib.ListN.{length}
-use Rattle.xcf_parse.specs.Hierarchy.{pointerSize, tiles}
+use Rattle.xcf_parse.specs.Hierarchy.{tiles}
+use Rattle.xcf_store.specs.Pointer.{pointerSize}
 use Rattle.xcf_window.specs.Window.{pointerAt}
 use Rattle.xcf_store.specs.Word.{words}
 use Rattle.xcf_structure.specs.Structure.{levelBytes}
@@ -39,7 +40,7 @@ module _ {f : List ℕ} {p : ℕ} (d : Drawable) (s : Stands f p (drawableBytes 
     starts-rise : Rises 0 (startsOf d p) (length f)
     starts-rise = tiles-rise d (tilesAt d p) (length f) fine (omega arith) (tiles-stand d s .inside)
 
-    pub pointed : Pointed f (readRow d p) (tilesOf d) (tilesAt d p)
+    pub pointed : Pointed pointerSize f (readRow d p) (tilesOf d) (tilesAt d p)
     unfolding pointerAt readRow
     pointed = record {
       all = tiles-counted d;

@@ -10,6 +10,7 @@ use native.Mathlib.Nat.{add-zero, zero-add}
 use native.Mathlib.Omega.{arith}
 use lib.ListN.{length, getD, replicate}
 use lib.Seq.{take-append-seam}
+use Rattle.xcf_store.specs.Pointer.{pointerSize}
 use Rattle.xcf_store.specs.Word.{part}
 use Rattle.xcf_walk.specs.Walk.{got}
 use Rattle.xcf_table.specs.declared.Row.{Row}
@@ -127,7 +128,7 @@ module _ (c : Canvas) (table names pixels lent : List ℕ) (low : (i : ℕ) → 
 
   row-decoded : (k : ℕ) → k < usedRows table → (buffer marks : List ℕ)
       → fits (rowAt table k) (length buffer) (length marks) ≡ true
-      → decoding file (reading file lent .table) k 1 buffer marks
+      → decoding pointerSize file (reading file lent .table) k 1 buffer marks
       ≡ record {
         answer = record { number = 0; place = 0; marked = 0 };
         pixels = drawable k .pixels;

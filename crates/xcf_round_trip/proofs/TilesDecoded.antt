@@ -12,7 +12,7 @@ use Rattle.xcf_table.specs.declared.Row.{Row}
 use Rattle.xcf_grid.specs.Grid.{tileWidth, tileHeight}
 use Rattle.xcf_tile.specs.Tile.{tileOf}
 use Rattle.xcf_encode_laws.proofs.TileReadBack.{tile-read-back}
-use Rattle.xcf_parse.specs.Hierarchy.{pointerSize}
+use Rattle.xcf_store.specs.Pointer.{pointerSize}
 use Rattle.xcf_window.specs.Window.{tile}
 use Rattle.xcf_grid.specs.Pixels.{tabulate, shown, pixelsOf}
 use Rattle.xcf_decode.specs.Answer.{marksOf, nonzero, rowDecoding}
@@ -51,7 +51,7 @@ unfolding nonzero
 nonzero-zero zero = refl
 nonzero-zero (suc n) = nonzero-zero n
 
-module _ {f : List ℕ} (d : Drawable) (p : ℕ) {q : ℕ} (fine : Writable d) (s : Pointed f (readRow d p) (tilesOf d) q) where
+module _ {f : List ℕ} (d : Drawable) (p : ℕ) {q : ℕ} (fine : Writable d) (s : Pointed pointerSize f (readRow d p) (tilesOf d) q) where
   tile-decoded : (t : ℕ) → t < d .row .count
       → (tile pointerSize f (readRow d p) 1 t .mark ≡ 0)
       × (tile pointerSize f (readRow d p) 1 t .pixels ≡ shown (d .row .width) (d .row .height) (d .row .depth) t (d .pixels))

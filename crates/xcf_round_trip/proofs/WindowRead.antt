@@ -15,7 +15,7 @@ use Rattle.xcf_store.specs.Word.{part, bigEndian, words}
 use Rattle.xcf_table.specs.declared.Row.{Row}
 use Rattle.xcf_tile.specs.Tile.{tileOf}
 use Rattle.xcf_laws.proofs.Cases.{by-cases}
-use Rattle.xcf_parse.specs.Hierarchy.{pointerSize}
+use Rattle.xcf_store.specs.Pointer.{pointerSize, numberAt}
 use Rattle.xcf_window.specs.Window.{pointerAt, windowEnd, windowLength, window}
 use Rattle.xcf_window.proofs.Cuts.{cut-same}
 use Rattle.xcf_drawable.specs.Drawable.{joined, starts}
@@ -26,7 +26,7 @@ use Rattle.xcf_round_trip.proofs.WordsRead.{word-value, words-first, wo
 
 pub pointer-read : {f : List ℕ} {p : ℕ} (before : ℕ) (ps : List ℕ) → length f ≤ 1073741824 → Rises before ps (length f)
     → Stands f p (words (ps ++ (0 ∷ []))) → (t : ℕ) → t < length ps
-    → bigEndian 0 (part f (p + pointerSize * t) pointerSize) ≡ getD ps t 0
+    → numberAt pointerSize f (p + pointerSize * t) ≡ getD ps t 0
 unfolding Rises
 pointer-read before [] small rises s t below = absurd (omega arith)
 pointer-read {f} {p} before (n ∷ ps) small rises s zero below =
@@ -61,32 +61,32 @@ part-begins {f} {p} bs s n long =
     sym (take-append-drop (length bs) (part f p n)) ∙ ap (λ (l : List ℕ). l ++ drop (length bs) (part f p n)) front
 
 -- a row's pointers are the starts of these lists, which stand in the file
-pub record Pointed (f : List ℕ) (r : Row) (xss : List (List ℕ)) (q : ℕ) : Type 0 where
+pub record Pointed (size : ℕ) (f : List ℕ) (r : Row) (xss : List (List ℕ)) (q : ℕ) : Type 0 where
   pub all : length xss ≡ r .count
-  pub pointers : (t : ℕ) → t < r .count → pointerAt pointerSize f r t ≡ getD (starts xss q) t 0
+  pub pointers : (t : ℕ) → t < r .count → pointerAt size f r t ≡ getD (starts xss q) t 0
   pub stands : Stands f q (joined xss)
 
-module _ {f : List ℕ} {r : Row} {xss : List (List ℕ)} {q : ℕ} (s : Pointed f r xss q) (t : ℕ) (below : t < r .count) where
-  at-pointer : Stands f (pointerAt pointerSize f r t) (getD xss t [])
+module _ {size : ℕ} {f : List ℕ} {r : Row} {xss : List (List ℕ)} {q : ℕ} (s : Pointed size f r xss q) (t : ℕ) (below : t < r .count) where
+  at-pointer : Stands f (pointerAt size f r t) (getD xss t [])
   at-pointer = rw (s .pointers t below) (stands-start xss (s .stands) t (omega (arith, s .all)))
 
-  before-end : pointerAt pointerSize f r t + length (getD xss t []) ≤ windowEnd pointerSize f r t
+  before-end : pointerAt size f r t + length (getD xss t []) ≤ windowEnd size f r t
   unfolding windowEnd
   before-end =
-      by-cases (λ (end : ℕ). pointerAt pointerSize f r t + length (getD xss t []) ≤ end) (ltb (t + 1) (r .count)) _ _
+      by-cases (λ (end : ℕ). pointerAt size f r t + length (getD xss t []) ≤ end) (ltb (t + 1) (r .count)) _ _
       (λ more.
       let next : t + 1 < r .count = ltb-true (t + 1) (r .count) more in
       rw (s .pointers t below, s .pointers (t + 1) next, add-one t) (omega (arith, start-next xss q t (omega (arith, s .all)))))
       (λ _. at-pointer .inside)
 
   pub window-begins : (w h depth compression : ℕ) → (rest : List ℕ)
-      × (tileOf (window pointerSize f r t) w h depth compression ≡ tileOf (getD xss t [] ++ rest) w h depth compression)
+      × (tileOf (window size f r t) w h depth compression ≡ tileOf (getD xss t [] ++ rest) w h depth compression)
   unfolding window windowLength
   window-begins w h depth compression =
-      let start = pointerAt pointerSize f r t in
-      let size = windowEnd pointerSize f r t - start in (
-        drop (length (getD xss t [])) (part f start size),
-        cut-same f start size w h depth compression
+      let start = pointerAt size f r t in
+      let long = windowEnd size f r t - start in (
+        drop (length (getD xss t [])) (part f start long),
+        cut-same f start long w h depth compression
             ∙ ap (λ (l : List ℕ). tileOf l w h depth compression)
-            (part-begins (getD xss t []) at-pointer size (omega (arith, before-end))),
+            (part-begins (getD xss t []) at-pointer long (omega (arith, before-end))),
       )

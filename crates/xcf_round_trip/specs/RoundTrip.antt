@@ -5,6 +5,7 @@ use mathlib.Core.Path.{_≡_}
 use mathlib.Core.List.{List}
 use mathlib.Core.Bool.{true}
 use lib.ListN.{length, getD, take, replicate}
+use Rattle.xcf_store.specs.Pointer.{pointerSize}
 use Rattle.xcf_store.specs.Word.{part}
 use Rattle.xcf_table.specs.declared.Row.{Row}
 use Rattle.xcf_table.specs.Table.{tableSize, unusedRow, rowAt}
@@ -65,7 +66,7 @@ pub record ReadsBack (c : Canvas) (table names pixels f lent : List ℕ) : Type 
   pub named : (k : ℕ) → k < usedRows table → SameName names f (rowAt table k) (rowAt (reading f lent .table) k)
   pub decoded : (k : ℕ) → k < usedRows table → (buffer marks : List ℕ)
       → fits (rowAt table k) (length buffer) (length marks) ≡ true
-      → decoding f (reading f lent .table) k 1 buffer marks
+      → decoding pointerSize f (reading f lent .table) k 1 buffer marks
       ≡ record {
         answer = record { number = 0; place = 0; marked = 0 };
         pixels = part pixels (pixelsSize table k 0) (pixelSize (rowAt table k));

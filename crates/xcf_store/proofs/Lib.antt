@@ -1,5 +1,6 @@
 pub mod Stores
 pub mod Parts
+pub mod Sizes
 pub mod RisingLoop
 pub mod Risen
 pub mod Words

@@ -1,3 +1,4 @@
 pub mod Put
 pub mod Word
+pub mod Pointer
 pub mod Rising

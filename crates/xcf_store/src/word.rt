@@ -2,7 +2,7 @@
 ghost use mathlib.Core.Path.{_≡_};
 ghost use Prim.Native.Nat.{_+_, _≤_};
 ghost use lib.ListN.{length};
-ghost use Rattle.xcf_store.specs.Word.{part, bigEndian, wordOf};
+ghost use Rattle.xcf_store.specs.Word.{part, bigEndian};
 
 pub fn wide(b: u8) -> u32
     ensures { λ r. ⌜ (r ≡ b) × (r ≤ 255) ⌝ }
@@ -18,17 +18,4 @@ pub fn word_at(file: &[u8], at: usize) -> u32
         + wide(file[at + 1]) * 65536
         + wide(file[at + 2]) * 256
         + wide(file[at + 3])
-}
-
-// The word at a place, or 0 where it does not lie in the file.
-pub fn word_in(file: &[u8], at: usize) -> u32
-    ensures { λ r. ⌜ r ≡ wordOf (now (file .entry)) at ⌝ }
-{
-    if file.len() < 4 {
-        return 0;
-    }
-    if file.len() - 4 < at {
-        return 0;
-    }
-    word_at(file, at)
 }

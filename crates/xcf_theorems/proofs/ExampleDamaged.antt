@@ -22,7 +22,8 @@ use Rattle.xcf_stream.specs.Stream.{streamFrom, streamWithin, streamAt}
 use Rattle.xcf_stream.specs.Streams.{streamsAt}
 use Rattle.xcf_tile.specs.Tile.{pixel, interleave, encodedTile, tileIn, tileOf}
 use Rattle.xcf_parse.specs.Header.{same, versionIn, header}
-use Rattle.xcf_parse.specs.Hierarchy.{pointerSize, agrees, pointer, restTurn, rest, tiles, hierarchy}
+use Rattle.xcf_parse.specs.Hierarchy.{agrees, pointer, restTurn, rest, tiles, hierarchy}
+use Rattle.xcf_store.specs.Pointer.{pointerSize}
 use Rattle.xcf_table.specs.Canvas.{sideOk}
 use Rattle.xcf_parse.specs.Drawable.{side, sideLike, fields, channel}
 use Rattle.xcf_row.specs.Row.{flag, channelFlags, channelRow, channelOwner}
@@ -69,11 +70,11 @@ differ-at i differs = go (eqb i 145) refl
     go true e = eqb-true i 145 e
     go false e = absurd (differs (sym (getD-set-other wideFile 145 i 128 0 (eqb-false i 145 e))))
 
-no-structure : structureByte wideFile 145 → ⊥
+no-structure : structureByte pointerSize wideFile 145 → ⊥
 unfolding passes structureByte run bytes here must fileLength jump loop turns bigEndian number word string lengthOk wordOf contentOf payload isColourMap content property isFloating lacksMap allowed activeType put propertyTurn properties addRow same versionIn header agrees pointer restTurn rest tiles hierarchy sideOk side sideLike fields channel flag channelFlags channelRow channelOwner channelRows canvasChannelRows baseOk baseType head pointers drawables canvasOf image
 no-structure = not-passed (image pointerSize) wideFile 0 145 refl
 
-in-window : InChosen wideFile given FirstTile 145
+in-window : InChosen pointerSize wideFile given FirstTile 145
 unfolding bigEndian rowAt InWindow pointerAt windowEnd windowLength
 in-window = record { k = 0; t = 0; is = record { row = omega arith; tile = omega arith }; chosen = (refl, refl); inside = (omega arith, omega arith) }
 
@@ -92,9 +93,9 @@ other-tile k t is free =
     second : (t : ℕ) → t < 2 → (t ≡ 0 → ⊥) → t ≡ 1
     second t below first = omega (arith, below, first)
 
-damage : Damaged wideFile damagedFile given FirstTile
+damage : Damaged pointerSize wideFile damagedFile given FirstTile
 damage = record {
-  size = refl;
+  long = refl;
   inside = λ i differs. rw (differ-at i differs) in-window;
   structure = λ i differs s. no-structure (rw (differ-at i differs) at s);
   others = λ i differs k t is free w. let e = other-tile k t is free in not-in-window (rw (e .0, e .1, differ-at i differs) at w);
@@ -117,7 +118,7 @@ fitting pixels marks p m = rw (p, m)
 pub example-damaged : (lent pixels marks : List ℕ) → length lent ≡ tableSize → length pixels ≡ 65 → length marks ≡ 2 → DamagedExample lent pixels marks
 example-damaged lent pixels marks size p m =
     let e = wide-read lent size in
-    let d : Damaged wideFile damagedFile (reading wideFile lent) FirstTile = rw e damage in
+    let d : Damaged pointerSize wideFile damagedFile (reading wideFile lent) FirstTile = rw e damage in
     let accepted : reading wideFile lent .answer .number ≡ 0 = rw e in
     let s = read-same d lent in
     let fit = fitting pixels marks p m in

@@ -9,7 +9,8 @@ use Rattle.xcf_property.specs.Property.{lengthOk, contentOf, isColourMap, isFlo
 use Rattle.xcf_walk.specs.Property.{payload, content, property, propertyTurn, properties}
 use Rattle.xcf_table.specs.Table.{addRow, tableOf}
 use Rattle.xcf_parse.specs.Header.{same, versionIn, header}
-use Rattle.xcf_parse.specs.Hierarchy.{pointerSize, agrees, pointer, restTurn, rest, tiles, hierarchy}
+use Rattle.xcf_parse.specs.Hierarchy.{agrees, pointer, restTurn, rest, tiles, hierarchy}
+use Rattle.xcf_store.specs.Pointer.{pointerSize}
 use Rattle.xcf_table.specs.Canvas.{sideOk}
 use Rattle.xcf_parse.specs.Drawable.{side, sideLike, fields, channel}
 use Rattle.xcf_row.specs.Row.{flag, channelFlags, channelRow, channelOwner}

@@ -7,10 +7,11 @@ use mathlib.Core.List.{List}
 use mathlib.Core.Bool.{true, or-true}
 use lib.Dec.{leb, eqb}
 use lib.ListN.{length}
+use native.Mathlib.Omega.{arith}
 use Rattle.xcf_walk.specs.Walk.{Outcome, got, refused, run}
 use Rattle.xcf_table.specs.Table.{tableSize, fileLimit}
 use Rattle.xcf_laws.proofs.Cases.{by-cases}
-use Rattle.xcf_parse.specs.Hierarchy.{pointerSize}
+use Rattle.xcf_store.specs.Pointer.{pointerSize}
 use Rattle.xcf_read.specs.Image.{Image, image}
 use Rattle.xcf_read.specs.Answer.{refusals, listed, Reading, readingOf, reading}
 use Rattle.xcf_read_laws.proofs.Numbers.{refusals-listed}
@@ -30,7 +31,7 @@ reading-listed : (file table : List ℕ) → Listed (reading file table)
 unfolding reading listed
 reading-listed file table =
     by-cases Listed (eqb (length table) tableSize) _ _
-    (λ _. by-cases Listed (leb (length file) fileLimit) _ _ (λ _. walk-listed (run (image pointerSize) file 0) (refusals-listed file)) (λ _. refl))
+    (λ _. by-cases Listed (leb (length file) fileLimit) _ _ (λ _. walk-listed (run (image pointerSize) file 0) (refusals-listed pointerSize (omega arith) file)) (λ _. refl))
     (λ _. refl)
 
 within-listed : (limit : ℕ) (file table : List ℕ) → Listed (readingWithin limit file table)

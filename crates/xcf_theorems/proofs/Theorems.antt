@@ -4,6 +4,7 @@ use mathlib.Core.Path.{refl}
 use mathlib.Core.List.{[]}
 use native.Mathlib.Nat.{zero-add, mul-le-mul}
 use native.Mathlib.Omega.{arith}
+use Rattle.xcf_store.specs.Pointer.{pointerSize}
 use Rattle.xcf_operation.specs.Operation.{headOf, headAt, operationOf, operationAt}
 use Rattle.xcf_stream.specs.Stream.{streamFrom, streamWithin, streamAt}
 use Rattle.xcf_stream.specs.Streams.{streamsAt}
@@ -47,7 +48,7 @@ pub structure-bytes-decide : StructureBytesDecide
 structure-bytes-decide = read-depends
 
 pub refusals-are-listed : RefusalsAreListed
-refusals-are-listed = refusals-listed
+refusals-are-listed = refusals-listed pointerSize (omega arith)
 
 pub accepted-without-fault : AcceptedWithoutFault
 accepted-without-fault = accepted-exactly

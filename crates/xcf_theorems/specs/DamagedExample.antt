@@ -4,6 +4,7 @@ use Prim.Native.Nat.{ℕ}
 use mathlib.Core.Path.{_≡_}
 use mathlib.Core.List.{List, [], _∷_, _++_}
 use lib.ListN.{take, set, replicate}
+use Rattle.xcf_store.specs.Pointer.{pointerSize}
 use Rattle.xcf_read.specs.Answer.{reading}
 use Rattle.xcf_decode.specs.Answer.{decoding}
 use Rattle.xcf_isolation.specs.Isolation.{Damaged}
@@ -26,8 +27,8 @@ FirstTile k t = (k ≡ 0) × (t ≡ 0)
 -- the wide file is accepted, the other is damaged in that tile, and what each shows in buffers that fit, whatever these held
 pub record DamagedExample (lent pixels marks : List ℕ) : Type 0 where
   pub accepted : reading wideFile lent .answer .number ≡ 0
-  pub damaged : Damaged wideFile damagedFile (reading wideFile lent) FirstTile
-  pub good : decoding wideFile (reading wideFile lent .table) 0 (reading wideFile lent .answer .compression) pixels marks
+  pub damaged : Damaged pointerSize wideFile damagedFile (reading wideFile lent) FirstTile
+  pub good : decoding pointerSize wideFile (reading wideFile lent .table) 0 (reading wideFile lent .answer .compression) pixels marks
       ≡ record { answer = record { number = 0; place = 0; marked = 0 }; pixels = replicate 64 255 ++ (7 ∷ []); marks = 0 ∷ 0 ∷ [] }
-  pub marked : decoding damagedFile (reading damagedFile lent .table) 0 (reading damagedFile lent .answer .compression) pixels marks
+  pub marked : decoding pointerSize damagedFile (reading damagedFile lent .table) 0 (reading damagedFile lent .answer .compression) pixels marks
       ≡ record { answer = record { number = 0; place = 0; marked = 1 }; pixels = replicate 64 0 ++ (7 ∷ []); marks = 20 ∷ 0 ∷ [] }

@@ -14,7 +14,7 @@ use Rattle.xcf_segment.specs.Segment.{segments, encodeStream}
 use Rattle.xcf_encode.specs.Tile.{planes, operationsOf, encodeTile}
 use Rattle.xcf_walk.specs.Walk.{Walk, got, refused, run, PassedOver}
 use Rattle.xcf_table.specs.Table.{rowSize, tableSize, rowAt, fileLimit}
-use Rattle.xcf_parse.specs.Hierarchy.{pointerSize}
+use Rattle.xcf_store.specs.Pointer.{pointerSize}
 use Rattle.xcf_read.specs.Image.{Image, image, structureByte}
 use Rattle.xcf_read.specs.Answer.{refusals, listed, reading, rowOf}
 use Rattle.xcf_grid.specs.Grid.{tileWidth, tileHeight, tileCount}
@@ -46,7 +46,7 @@ PassedBytesDecide =
 abbrev pub StructureBytesDecide : Type 0
 StructureBytesDecide =
     (file other table : List ℕ) → length file ≡ length other
-    → ((i : ℕ) → structureByte file i → getD file i 0 ≡ getD other i 0)
+    → ((i : ℕ) → structureByte pointerSize file i → getD file i 0 ≡ getD other i 0)
     → reading file table ≡ reading other table
 
 -- A refusal of the walk has a number of document 01.
@@ -117,7 +117,7 @@ AcceptedRowsDecode =
     (file lent : List ℕ) →
     let x = reading file lent in
     x .answer .number ≡ 0 → (k : ℕ) → k < x .answer .rows → (pixels marks : List ℕ) → fits (rowOf x k) (length pixels) (length marks) ≡ true
-    → decoding file (x .table) k (x .answer .compression) pixels marks ≡ rowDecoding pointerSize file (rowOf x k) (x .answer .compression)
+    → decoding pointerSize file (x .table) k (x .answer .compression) pixels marks ≡ rowDecoding pointerSize file (rowOf x k) (x .answer .compression)
 
 -- Byte k of pixel (x, y) of a drawable is byte k of that pixel in its own tile.
 abbrev pub PixelsAreTheirTiles : Type 0
@@ -143,14 +143,14 @@ TilesAreShown =
 -- The decoder answers 0, 11, 13, 14 or 15.
 abbrev pub DecoderRefusalsAreListed : Type 0
 DecoderRefusalsAreListed =
-    (file table : List ℕ) (k compression : ℕ) (pixels marks : List ℕ)
-    → listed decoderNumbers (decoding file table k compression pixels marks .answer .number) ≡ true
+    (size : ℕ) (file table : List ℕ) (k compression : ℕ) (pixels marks : List ℕ)
+    → listed decoderNumbers (decoding size file table k compression pixels marks .answer .number) ≡ true
 
 -- The count of marked tiles that asks for no buffers is the decoder's.
 abbrev pub CountIsTheDecoders : Type 0
 CountIsTheDecoders =
-    (file table : List ℕ) (k compression : ℕ) (pixels marks : List ℕ) → fits (rowAt table k) (length pixels) (length marks) ≡ true
-    → counting file table k compression ≡ decoding file table k compression pixels marks .answer
+    (size : ℕ) (file table : List ℕ) (k compression : ℕ) (pixels marks : List ℕ) → fits (rowAt table k) (length pixels) (length marks) ≡ true
+    → counting size file table k compression ≡ decoding size file table k compression pixels marks .answer
 
 -- A tile's mark is 0, 20 or 21.
 abbrev pub MarksAreListed : Type 0

@@ -63,9 +63,9 @@ pub got-word : (f : List ℕ) (at : ℕ) {v q : ℕ} → got v q ≡ run word f 
 unfolding word
 got-word = got-number 4
 
-pub word-within : {c d : Cursor} {f : List ℕ} {v : ℕ} → Leads c word f d v → d .number ≡ 0
-    → (d .at ≡ c .at + 4) × (d .at ≤ length f) × (v ≡ bigEndian 0 (part f (c .at) 4))
-word-within {c} {f = f} l h = let g = got-word f (c .at) (live-run l h) in (g .0, omega (arith, g .0, g .1), g .2)
+pub number-within : (size : ℕ) {c d : Cursor} {f : List ℕ} {v : ℕ} → Leads c (number size) f d v → d .number ≡ 0
+    → (d .at ≡ c .at + size) × (d .at ≤ length f) × (v ≡ bigEndian 0 (part f (c .at) size))
+number-within size {c} {f = f} l h = let g = got-number size f (c .at) (live-run l h) in (g .0, omega (arith, g .0, g .1), g .2)
 
 -- a string: its bytes and its end lie in the file
 pub got-string : (f : List ℕ) (at : ℕ) {name : Name} {q : ℕ} → got name q ≡ run string f at → (name .place + name .length ≤ length f) × (q ≤ length f)

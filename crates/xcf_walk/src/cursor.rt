@@ -4,7 +4,8 @@ ghost use Prim.Native.Nat.{_-_};
 ghost use lib.ListN.{getD};
 ghost use lib.Dec.{eqb};
 ghost use Rattle.xcf_store.specs.Word.{part};
-ghost use Rattle.xcf_walk.specs.Fields.{word, string};
+ghost use Rattle.xcf_store.specs.Pointer.{PointerSize};
+ghost use Rattle.xcf_walk.specs.Fields.{number, word, string};
 ghost use Rattle.xcf_walk.specs.Cursor.{live, checked, jumped, skipped, Reads, noName};
 use xcf_store::word::word_at;
 
@@ -125,6 +126,14 @@ impl Cursor {
             value: word_at(file, self.at),
             cursor: next,
         }
+    }
+
+    // A pointer of so many bytes.
+    pub fn pointer(self, file: &[u8], size: usize) -> WordRead
+        requires { ⌜ PointerSize size ⌝ }
+        ensures { λ r. ⌜ Reads self (number size) (now (file .entry)) 0 (r .cursor) (r .value) ⌝ }
+    {
+        self.word(file)
     }
 
     pub fn string(self, file: &[u8]) -> NameRead

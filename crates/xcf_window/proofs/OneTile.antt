@@ -20,7 +20,6 @@ use Rattle.xcf_range.proofs.Bounds.{bounds-within}
 use Rattle.xcf_laws.proofs.Products.{small}
 use Rattle.xcf_tile_laws.proofs.Pixels.{pixels-length}
 use Rattle.xcf_tile_laws.proofs.Marks.{Listed, mark-listed}
-use Rattle.xcf_parse.specs.Hierarchy.{pointerSize}
 use Rattle.xcf_grid.specs.declared.frame.Frame.{Frame}
 use Rattle.xcf_window.specs.Window.{pointerAt, windowEnd, windowLength, window, tile}
 use Rattle.xcf_window.specs.Parts.{Ready, Scratched}
@@ -29,8 +28,8 @@ use Rattle.xcf_window.proofs.Cuts.{cut-same}
 use Rattle.xcf_grid.proofs.Grid.{tile-width, tile-height}
 use Rattle.xcf_window.proofs.TilePointers.{tiles-inside}
 
-pub pointers-inside : {f : List ℕ} {r : Row} {compression : ℕ} → Ready f r compression → r .tiles + pointerSize * (r .count + 1) ≤ length f
-pointers-inside {f} {r} ready = tiles-inside pointerSize (r .count) 0 f (r .tiles) (ready .pointers)
+pub pointers-inside : {size : ℕ} {f : List ℕ} {r : Row} {compression : ℕ} → Ready size f r compression → r .tiles + size * (r .count + 1) ≤ length f
+pointers-inside {size} {f} {r} ready = tiles-inside size (r .count) 0 f (r .tiles) (ready .pointers)
 
 -- what the decoding of a tile gives where it is not refused
 decoded-gives : {ws : List ℕ} {w h depth compression : ℕ} {old new : List ℕ} {a : TileAnswer}
@@ -50,7 +49,7 @@ unfolding tile
 mark-small size f r compression t =
     listed-small (mark-listed (window size f r t) (tileWidth (r .width) t) (tileHeight (r .width) (r .height) t) (r .depth) compression)
 
-module _ {f : List ℕ} {r : Row} {compression t : ℕ} {s : Frame} (ready : Ready f r compression) (below : t < r .count) (frame : s ≡ frameOf r t) where
+module _ {size : ℕ} {f : List ℕ} {r : Row} {compression t : ℕ} {s : Frame} (ready : Ready size f r compression) (below : t < r .count) (frame : s ≡ frameOf r t) where
   width-in-range : (1 ≤ s .width) × (s .width ≤ 64)
   width-in-range = rw frame (tile-width (r .width) t (ready .usable .wide .0))
 
@@ -66,25 +65,25 @@ module _ {f : List ℕ} {r : Row} {compression t : ℕ} {s : Frame} (ready : Rea
       rw (bounds-within 1 64 (s .width) width-in-range, bounds-within 1 64 (s .height) height-in-range, bounds-within 1 4 (r .depth) (ready .usable .deep), le-leb compression 1 (ready .usable .way), eq-eqb len (s .width * s .height * r .depth) exact)
 
   -- the window that the decoder is lent is not cut yet
-  same-tile : {start end : ℕ} → start ≡ pointerAt pointerSize f r t → end ≡ windowEnd pointerSize f r t
-      → tileOf (part f start (end - start)) (s .width) (s .height) (r .depth) compression ≡ tile pointerSize f r compression t
+  same-tile : {start end : ℕ} → start ≡ pointerAt size f r t → end ≡ windowEnd size f r t
+      → tileOf (part f start (end - start)) (s .width) (s .height) (r .depth) compression ≡ tile size f r compression t
   unfolding tile window windowLength
   same-tile from to =
-      let first = pointerAt pointerSize f r t in
-      rw (from, to, frame) (sym (cut-same f first (windowEnd pointerSize f r t - first) (tileWidth (r .width) t) (tileHeight (r .width) (r .height) t) (r .depth) compression))
+      let first = pointerAt size f r t in
+      rw (from, to, frame) (sym (cut-same f first (windowEnd size f r t - first) (tileWidth (r .width) t) (tileHeight (r .width) (r .height) t) (r .depth) compression))
 
-  pub scratched : {start end : ℕ} {scratch new : List ℕ} {a : TileAnswer} → start ≡ pointerAt pointerSize f r t → end ≡ windowEnd pointerSize f r t
+  pub scratched : {start end : ℕ} {scratch new : List ℕ} {a : TileAnswer} → start ≡ pointerAt size f r t → end ≡ windowEnd size f r t
       → length scratch ≡ 16384 → Decoded (part f start (end - start)) (s .width) (s .height) (r .depth) compression (take (s .width * s .height * r .depth) scratch) a new
-      → Scratched (tile pointerSize f r compression t) (a .mark) scratch (new ++ drop (s .width * s .height * r .depth) scratch)
+      → Scratched (tile size f r compression t) (a .mark) scratch (new ++ drop (s .width * s .height * r .depth) scratch)
   scratched {start} {end} {scratch} {new} from to room d =
-      let size = s .width * s .height * r .depth in
-      let exact = length-take-le size scratch (omega (arith, pixels-small .1, room)) in
+      let bytes = s .width * s .height * r .depth in
+      let exact = length-take-le bytes scratch (omega (arith, pixels-small .1, room)) in
       let g = decoded-gives (tile-not-refused exact) d in
       let same = same-tile from to in
       let pixels = g .1 ∙ ap (λ x. x .pixels) same in
       let whole = ap length (g .1) ∙ pixels-length (part f start (end - start)) (s .width) (s .height) (r .depth) compression in
       record {
         mark = g .0 ∙ ap (λ x. x .mark) same;
-        size = length-front scratch new size (whole ∙ sym exact);
+        size = length-front scratch new bytes (whole ∙ sym exact);
         content = rw (← pixels, whole);
       }

@@ -11,7 +11,7 @@ use borrow.Author.Tests.{ltb-true}
 use lib.Dec.{ltb}
 use lib.ListN.{length}
 use Rattle.xcf_walk.specs.Walk.{got, run, must}
-use Rattle.xcf_store.specs.Word.{part, bigEndian}
+use Rattle.xcf_store.specs.Pointer.{numberAt}
 use Rattle.xcf_walk.specs.Fields.{number}
 use Rattle.xcf_walk.proofs.Walks.{parted, run-here, run-length, got-must}
 use Rattle.xcf_walk.proofs.Within.{got-number}
@@ -19,9 +19,6 @@ use Rattle.xcf_table.specs.declared.Row.{Row}
 use Rattle.xcf_laws.proofs.Cases.{by-cases}
 use Rattle.xcf_parse.specs.Hierarchy.{tiles}
 use Rattle.xcf_window.specs.Window.{pointerAt, windowEnd}
-
-abbrev numberAt : ℕ → List ℕ → ℕ → ℕ
-numberAt size f at = bigEndian 0 (part f at size)
 
 -- a pointer passed over, with n more behind it
 record Passed (size n before : ℕ) (f : List ℕ) (at q : ℕ) : Type 0 where
@@ -59,7 +56,7 @@ pub tiles-inside : (size n before : ℕ) (f : List ℕ) (at : ℕ) {q : ℕ} →
 tiles-inside size n before f at e = let end = tiles-end size n before f at e in omega (arith, end .0, end .1)
 
 tiles-below : (size n before : ℕ) (f : List ℕ) (at : ℕ) {q : ℕ} → got tt q ≡ run (tiles size n before) f at
-    → (t : ℕ) → t < n → bigEndian 0 (part f (at + size * t) size) < length f
+    → (t : ℕ) → t < n → numberAt size f (at + size * t) < length f
 tiles-below size zero before f at e t below = absurd (omega arith)
 tiles-below size (suc n) before f at e zero below =
     let first : at + size * 0 ≡ at = omega arith in
@@ -69,7 +66,7 @@ tiles-below size (suc n) before f at e (suc t) below =
     rw next (tiles-below size n _ f (at + size) (passed size n before f at e .rest) t (omega arith))
 
 tiles-rise : (size n before : ℕ) (f : List ℕ) (at : ℕ) {q : ℕ} → got tt q ≡ run (tiles size n before) f at
-    → (t : ℕ) → t + 1 < n → bigEndian 0 (part f (at + size * t) size) < bigEndian 0 (part f (at + size * (t + 1)) size)
+    → (t : ℕ) → t + 1 < n → numberAt size f (at + size * t) < numberAt size f (at + size * (t + 1))
 tiles-rise size zero before f at e t below = absurd (omega arith)
 tiles-rise size (suc zero) before f at e zero below = absurd (omega arith)
 tiles-rise size (suc (suc n)) before f at e zero below =

@@ -7,7 +7,8 @@ use Rattle.xcf_walk.specs.Walk.{got, run}
 use Rattle.xcf_table.specs.declared.Row.{Row}
 use Rattle.xcf_grid.specs.Grid.{tileCount}
 use Rattle.xcf_tile.specs.Tile.{Tile}
-use Rattle.xcf_parse.specs.Hierarchy.{pointerSize, tiles}
+use Rattle.xcf_parse.specs.Hierarchy.{tiles}
+use Rattle.xcf_store.specs.Pointer.{PointerSize}
 
 -- a row whose numbers are in range
 pub record Usable (r : Row) (compression : ℕ) : Type 0 where
@@ -17,11 +18,12 @@ pub record Usable (r : Row) (compression : ℕ) : Type 0 where
   pub count : r .count ≡ tileCount (r .width) (r .height)
   pub way : compression ≤ 1
 
--- and whose tile pointers are right in the file f
-pub record Ready (f : List ℕ) (r : Row) (compression : ℕ) : Type 0 where
+-- and whose tile pointers, of `size` bytes, are right in the file f
+pub record Ready (size : ℕ) (f : List ℕ) (r : Row) (compression : ℕ) : Type 0 where
+  pub sized : PointerSize size
   pub usable : Usable r compression
   pub end : ℕ
-  pub pointers : got tt end ≡ run (tiles pointerSize (r .count) 0) f (r .tiles)
+  pub pointers : got tt end ≡ run (tiles size (r .count) 0) f (r .tiles)
 
 -- the tile's mark, and its pixels at the start of a scratch, whose rest stays
 pub record Scratched (t : Tile) (m : ℕ) (old new : List ℕ) : Type 0 where

@@ -2,6 +2,7 @@
 use Prim.Native.Nat.{ℕ, _+_, _*_}
 use mathlib.Core.Bool.{Bool, cond, _&&_}
 use lib.Dec.{leb, eqb}
+use Rattle.xcf_store.specs.Pointer.{pointerSizeOk}
 use Rattle.xcf_table.specs.declared.Row.{Row}
 use Rattle.xcf_table.specs.Table.{tableSize, fileLimit}
 use Rattle.xcf_grid.specs.Grid.{tileCount}
@@ -16,7 +17,7 @@ unfoldable pub inFile : ℕ → ℕ → Row → Bool
 inFile size fileLength r = eqb (r .count) (tileCount (r .width) (r .height)) && leb (r .tiles + size * (r .count + 1)) fileLength
 
 unfoldable pub usableRow : ℕ → ℕ → Row → ℕ → Bool
-usableRow size fileLength r compression = inRange r && (inFile size fileLength r && leb compression 1)
+usableRow size fileLength r compression = pointerSizeOk size && (inRange r && (inFile size fileLength r && leb compression 1))
 
 -- whether pixels and marks of these lengths fit a row
 unfoldable pub fits : Row → ℕ → ℕ → Bool

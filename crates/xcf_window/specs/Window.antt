@@ -5,14 +5,15 @@ use mathlib.Core.List.{List}
 use mathlib.Core.Bool.{cond}
 use lib.ListN.{length}
 use lib.Dec.{ltb}
-use Rattle.xcf_store.specs.Word.{part, bigEndian}
+use Rattle.xcf_store.specs.Word.{part}
+use Rattle.xcf_store.specs.Pointer.{numberAt}
 use Rattle.xcf_table.specs.declared.Row.{Row}
 use Rattle.xcf_grid.specs.Grid.{tileWidth, tileHeight}
 use Rattle.xcf_tile.specs.Tile.{Tile, tileOf, windowLimit}
 
 -- the pointer of a row's tile t
 unfoldable pub pointerAt : ℕ → List ℕ → Row → ℕ → ℕ
-pointerAt size f r t = bigEndian 0 (part f (r .tiles + size * t) size)
+pointerAt size f r t = numberAt size f (r .tiles + size * t)
 
 unfoldable pub windowEnd : ℕ → List ℕ → Row → ℕ → ℕ
 windowEnd size f r t = cond (ltb (t + 1) (r .count)) (pointerAt size f r (t + 1)) (length f)

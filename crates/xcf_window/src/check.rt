@@ -2,10 +2,11 @@
 ghost use mathlib.Core.Path.{_≡_};
 ghost use Prim.Native.Nat.{_≤_};
 ghost use lib.ListN.{length};
-ghost use Rattle.xcf_parse.specs.Hierarchy.{pointerSize};
+ghost use Rattle.xcf_store.specs.Pointer.{PointerSize};
 ghost use Rattle.xcf_window.specs.Usable.{inRange, inFile, usableRow, fits, rowRefusal};
 use xcf_grid::tile_count;
 use xcf_range::outside;
+use xcf_store::pointer::POINTER_SIZE;
 use xcf_table::FILE_LIMIT;
 use xcf_table::Row;
 use xcf_table::TABLE_SIZE;
@@ -30,30 +31,34 @@ fn in_range(row: Row) -> bool
 }
 
 // Whether the row's tiles are as many as its sides take, and their pointers and the closing word lie in a file of this length.
-fn in_file(length: usize, row: Row) -> bool
-    ensures { λ r. ⌜ r ≡ inFile pointerSize length row ⌝ }
+fn in_file(length: usize, row: Row, size: usize) -> bool
+    requires { ⌜ PointerSize size ⌝ }
+    ensures { λ r. ⌜ r ≡ inFile size length row ⌝ }
 {
     if row.count as u64 != tile_count(row.width, row.height) {
         return false;
     }
-    row.tiles as usize + 4 * (row.count as usize + 1) <= length
+    row.tiles as usize + size * (row.count as usize + 1) <= length
 }
 
-fn usable(length: usize, row: Row, compression: u32) -> bool
-    ensures { λ r. ⌜ r ≡ usableRow pointerSize length row compression ⌝ }
+fn usable(length: usize, row: Row, compression: u32, size: usize) -> bool
+    ensures { λ r. ⌜ r ≡ usableRow size length row compression ⌝ }
 {
+    if size != POINTER_SIZE {
+        return false;
+    }
     if 1 < compression {
         return false;
     }
     if in_range(row) {
-        return in_file(length, row);
+        return in_file(length, row, size);
     }
     false
 }
 
 // 11 for a table of so many numbers, 15, 14, or 0 where the row is not refused.
-pub fn row_refusal(file: &[u8], numbers: usize, row: Row, compression: u32) -> u64
-    ensures { λ r. ⌜ r ≡ rowRefusal pointerSize (length (now (file .entry))) numbers row compression ⌝ }
+pub fn row_refusal(file: &[u8], numbers: usize, row: Row, compression: u32, size: usize) -> u64
+    ensures { λ r. ⌜ r ≡ rowRefusal size (length (now (file .entry))) numbers row compression ⌝ }
 {
     if numbers != TABLE_SIZE {
         return 11;
@@ -61,7 +66,7 @@ pub fn row_refusal(file: &[u8], numbers: usize, row: Row, compression: u32) -> u
     if FILE_LIMIT < file.len() {
         return 15;
     }
-    if usable(file.len(), row, compression) {
+    if usable(file.len(), row, compression, size) {
         return 0;
     }
     14

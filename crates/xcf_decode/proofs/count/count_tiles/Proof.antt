@@ -8,46 +8,56 @@ use Rattle.xcf_decode.proofs.count.count_tiles.Statement.{statement}
 use Rattle.xcf_decode.proofs.count.count_tiles.Tie as tie
 
 abbrev Inv-loop : tie.InvT-loop
-Inv-loop file row compression scratch₀ t₀ marked₀ scratch t marked = Counting file row compression scratch t marked
+Inv-loop file row compression size scratch₀ t₀ marked₀ scratch t marked = Counting size file row compression scratch t marked
 
 abbrev μ-loop : tie.MeasureT-loop
-μ-loop file row compression scratch₀ t₀ marked₀ scratch t marked = row .count - t
+μ-loop file row compression size scratch₀ t₀ marked₀ scratch t marked = row .count - t
+
+-- from a turn to the loop's head and to the start, and from the tile decoded to its turn
+abbrev head : tie.Then1 Inv-loop μ-loop → tie.At-loop Inv-loop μ-loop
+head c = c .before .before
+
+abbrev begin : tie.At-loop Inv-loop μ-loop → tie.Start Inv-loop μ-loop
+begin c = c .before .before .before
+
+abbrev turn : tie.After-decode-one Inv-loop μ-loop → tie.Then1 Inv-loop μ-loop
+turn c = c .before .before .before
 
 -- in a turn, the tiles before it and the marks among them are few
-few : (c : tie.Then1 Inv-loop μ-loop) → (c .before .before .loop .marked ≤ c .before .before .loop .t) × (c .before .before .loop .t ≤ 65536)
-few c = counting-few (c .before .before .before .before .before .pre .0) (c .before .before .loop .inv)
+few : (c : tie.Then1 Inv-loop μ-loop) → (head c .loop .marked ≤ head c .loop .t) × (head c .loop .t ≤ 65536)
+few c = counting-few (begin (head c) .pre .0) (head c .loop .inv)
 
 loop-holds : tie.Need-loop-holds Inv-loop μ-loop
 loop-holds c = counting-start (c .before .before .pre .1)
 
 frame-of-requires : tie.Need-frame-of-requires Inv-loop μ-loop
-frame-of-requires c κs = c .before .before .before .before .before .pre .0 .usable .wide
+frame-of-requires c κs = begin (head c) .pre .0 .usable .wide
 
 decode-one-requires : tie.Need-decode-one-requires Inv-loop μ-loop
 decode-one-requires c κs =
-    let turn = c .before .before in
-    (turn .before .before .before .before .before .pre .0, (omega (arith, turn .if1 .taken), c .before .frame-of .ensures, turn .before .before .loop .inv .size))
+    let t = c .before .before in
+    (begin (head t) .pre .0, (omega (arith, t .if1 .taken), c .before .frame-of .ensures, head t .loop .inv .room))
 
 add-marked : tie.Need-add-marked Inv-loop μ-loop
-add-marked c = omega (arith, few (c .before .before .before .before .before .before))
+add-marked c = omega (arith, few (turn (c .before .before .before)))
 
 add-t : tie.Need-add-t Inv-loop μ-loop
-add-t c = omega (arith, few (c .before .before .before .before .before .before))
+add-t c = omega (arith, few (turn (c .before .before .before)))
 
 loop-less : tie.Need-loop-less Inv-loop μ-loop
-loop-less c = omega (arith, c .before .before .before .before .before .before .if1 .taken)
+loop-less c = omega (arith, turn (c .before .before .before) .if1 .taken)
 
 loop-again : tie.Need-loop-again Inv-loop μ-loop
 loop-again c =
     let one = c .before .before .before in
-    let turn = one .before .before .before in
-    let g = turn .before .before .loop .inv in
-    let less : turn .before .before .loop .t < turn .before .before .before .before .before .args .row .count = omega (arith, turn .if1 .taken) in
+    let h = head (turn one) in
+    let g = h .loop .inv in
+    let less : h .loop .t < begin h .args .row .count = omega (arith, turn one .if1 .taken) in
     let tile = one .decode-one .ensures in
     ⊎-elim (λ w. rw (w .1) (counting-bad g less tile (w .0 .taken))) (λ w. rw (w .1) (counting-good g less tile (w .0 .left))) (c .if2 .came)
 
 same-length : tie.Need-same-length Inv-loop μ-loop
-same-length c = c .before .before .loop .inv .size ∙ sym (c .before .before .before .before .before .pre .1)
+same-length c = let h = c .before .before in h .loop .inv .room ∙ sym (begin h .pre .1)
 
 returns : tie.Need-returns Inv-loop μ-loop
 returns c = counting-over (c .before .before .loop .inv) (omega (arith, c .if1 .left))

@@ -8,7 +8,6 @@ use Rattle.xcf_walk.specs.Cursor.{Leads}
 use Rattle.xcf_walk.proofs.Resume.{then, then-here, ends, is-live, reads-live, reads-none}
 use Rattle.xcf_walk.proofs.Within.{string-within}
 use Rattle.xcf_parse.specs.declared.drawable.Fields.{Fields}
-use Rattle.xcf_parse.specs.Hierarchy.{pointerSize}
 use Rattle.xcf_parse.specs.Drawable.{fields}
 use Rattle.xcf_parse.specs.Parts.{FieldsLow}
 use Rattle.xcf_parse.proofs.Places.{place-low}
@@ -32,7 +31,7 @@ own c = record {
 }
 
 leads : (c : tie.After-pointer) → let a = begin c .args in
-    Leads (a .cursor) (fields pointerSize (a .kind)) (a .file .now) (c .pointer .result .cursor) (own c)
+    Leads (a .cursor) (fields (a .size) (a .kind)) (a .file .now) (c .pointer .result .cursor) (own c)
 unfolding fields
 leads c =
     then _ (named c .string .ensures .leads) (then-here _ _ (λ h. c .before .before .place .ensures ∙ is-live (named c .string .result .cursor) _ _ h)

@@ -2,34 +2,32 @@
 -- Beside a refusal stands no layer.
 use native.Mathlib.Omega.{arith}
 use borrow.Author.Needs.{needs}
-use Rattle.xcf_walk.specs.Fields.{word}
 use Rattle.xcf_walk.specs.Cursor.{Leads}
 use Rattle.xcf_walk.proofs.Resume.{then, ends, reads-live, reads-none}
-use Rattle.xcf_parse.specs.Hierarchy.{pointerSize}
 use Rattle.xcf_parse.specs.Drawable.{layer}
 use Rattle.xcf_parse.proofs.drawable.read_layer.Statement.{statement}
 use Rattle.xcf_parse.proofs.drawable.read_layer.Tie as tie
 
 -- from a place to the one before it that a need cites
-abbrev wide : tie.After-word → tie.After-side
+abbrev wide : tie.After-pointer → tie.After-side
 wide c = c .before .before .before .before
 
-abbrev begin : tie.After-word → tie.Start
+abbrev begin : tie.After-pointer → tie.Start
 begin c = wide c .before .before
 
-leads : (c : tie.After-word) → let a = begin c .args in
-    Leads (a .cursor) (layer pointerSize (a .base)) (a .file .now) (c .word .result .cursor)
+leads : (c : tie.After-pointer) → let a = begin c .args in
+    Leads (a .cursor) (layer (a .size) (a .base)) (a .file .now) (c .pointer .result .cursor)
     (record {
       width = wide c .side .result .value;
       height = c .before .before .before .side2 .result .value;
       form = c .before .before .layer-type .result .value;
       fields = c .before .read-fields .result .fields;
-      mask = c .word .result .value;
+      mask = c .pointer .result .value;
     })
-unfolding layer word
+unfolding layer
 leads c =
     then _ (wide c .side .ensures .0) (then _ (c .before .before .before .side2 .ensures .0) (then _ (c .before .before .layer-type .ensures)
-    (then _ (c .before .read-fields .ensures .0 .leads) (then _ (c .word .ensures .leads) ends))))
+    (then _ (c .before .read-fields .ensures .0 .leads) (then _ (c .pointer .ensures .leads) ends))))
 
 side-requires : tie.Need-side-requires
 side-requires c κs = search needs
@@ -43,8 +41,8 @@ layer-type-requires c κs = search needs
 read-fields-requires : tie.Need-read-fields-requires
 read-fields-requires c κs = search needs
 
-word-requires : tie.Need-word-requires
-word-requires c κs = search needs
+pointer-requires : tie.Need-pointer-requires
+pointer-requires c κs = search needs
 
 none-requires : tie.Need-none-requires
 none-requires c κs = search needs
@@ -69,7 +67,7 @@ read-layer-spec =
     side-requires-2
     layer-type-requires
     read-fields-requires
-    word-requires
+    pointer-requires
     none-requires
     returns
     returns-2)

@@ -6,7 +6,7 @@ use borrow.Author.Needs.{needs}
 use Rattle.xcf_walk.specs.Cursor.{Leads}
 use Rattle.xcf_walk.proofs.Resume.{then, then-here, ends, by-jump, is-live, reads-live, reads-none}
 use Rattle.xcf_walk.proofs.Within.{moves-on}
-use Rattle.xcf_parse.specs.Hierarchy.{pointerSize, hierarchy}
+use Rattle.xcf_parse.specs.Hierarchy.{hierarchy}
 use Rattle.xcf_parse.proofs.Pointers.{advances-agrees}
 use Rattle.xcf_grid.proofs.FewTiles.{few-tiles}
 use Rattle.xcf_parse.proofs.Places.{place-low}
@@ -20,11 +20,14 @@ seventh c = c .before .before .before
 abbrev fourth : tie.After-tiles → tie.After-rest
 fourth c = seventh c .before .before .before .before
 
+abbrev start : tie.After-rest → tie.Start
+start c = c .before .before .before .before .before .before
+
 abbrev begin : tie.After-tiles → tie.Start
-begin c = fourth c .before .before .before .before .before .before
+begin c = start (fourth c)
 
 leads : (c : tie.After-tiles) → let a = begin c .args in
-    Leads (a .cursor) (hierarchy pointerSize (a .width) (a .height) (a .depth)) (a .file .now) (c .tiles .result) (c .before .place .result)
+    Leads (a .cursor) (hierarchy (a .size) (a .width) (a .height) (a .depth)) (a .file .now) (c .tiles .result) (c .before .place .result)
 unfolding hierarchy
 leads c =
     let r = fourth c in
@@ -66,14 +69,14 @@ tile-count-requires c κs = search needs
 
 cast-count : tie.Need-cast-count
 cast-count c =
-    let sides = c .before .before .before .before .before .before .before .before .before .before .before .pre in
-    omega (arith, c .tile-count .ensures, few-tiles _ _ (sides .0) (sides .1))
+    let sides = start (c .before .before .before .before .before) .pre in
+    omega (arith, c .tile-count .ensures, few-tiles _ _ (sides .1) (sides .2))
 
 place-requires : tie.Need-place-requires
 place-requires c κs = search needs
 
 tiles-requires : tie.Need-tiles-requires
-tiles-requires c κs = search needs
+tiles-requires c κs = start (c .before .before .before .before .before .before) .pre .0
 
 returns : tie.Need-returns
 returns c = (reads-none (c .if1 .taken) (leads (c .before .before)), omega arith)

@@ -1,6 +1,7 @@
--- `right_tiles` meets its contract: from a refused cursor none is passed over (`none-left`), and else the words that rise
+-- `right_tiles` meets its contract: from a refused cursor none is passed over (`none-left`), and else the pointers that rise
 -- (`rising-left`).
 use mathlib.Core.Logic.{⊎-elim}
+use native.Mathlib.Omega.{arith}
 use borrow.Author.Needs.{needs}
 use Rattle.xcf_parse.proofs.Tiles.{rising-ends, none-left, rising-left}
 use Rattle.xcf_parse.proofs.hierarchy.right_tiles.Statement.{statement}
@@ -9,30 +10,30 @@ use Rattle.xcf_parse.proofs.hierarchy.right_tiles.Tie as tie
 returns : tie.Need-returns
 returns c = none-left (c .if1 .taken)
 
-rising-words-requires : tie.Need-rising-words-requires
-rising-words-requires c κs = search needs
+rising-pointers-requires : tie.Need-rising-pointers-requires
+rising-pointers-requires c κs = search needs
 
 cast-start : tie.Need-cast-start
 cast-start c = search needs
 
 mul-start : tie.Need-mul-start
-mul-start c = search needs
+mul-start c = ⊎-elim (λ h. omega (arith, h)) (λ h. omega (arith, h)) (rising-ends _ _ _ _ (c .before .rising-pointers .ensures))
 
 add-start : tie.Need-add-start
-add-start c = ⊎-elim (λ h. search needs) (λ h. search needs) (rising-ends _ _ _ (c .before .rising-words .ensures))
+add-start c = ⊎-elim (λ h. search needs) (λ h. search needs) (rising-ends _ _ _ _ (c .before .rising-pointers .ensures))
 
 start-requires : tie.Need-start-requires
 start-requires c κs = search needs
 
 returns-2 : tie.Need-returns-2
-returns-2 c = rising-left _ _ _ (c .before .before .before .if1 .left) (c .before .before .rising-words .ensures) (c .start .ensures)
+returns-2 c = rising-left _ _ _ _ (c .before .before .before .if1 .left) (c .before .before .rising-pointers .ensures) (c .start .ensures)
 
 pub right-tiles-spec : {M : Type 1} → statement M
 right-tiles-spec =
     tie.close
     (tie.spec
     returns
-    rising-words-requires
+    rising-pointers-requires
     cast-start
     mul-start
     add-start

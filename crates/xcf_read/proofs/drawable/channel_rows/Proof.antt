@@ -39,8 +39,8 @@ channel-row-requires c κs = search needs
 put-row-requires : tie.Need-put-row-requires
 put-row-requires c κs = search needs
 
-add-t16 : tie.Need-add-t16
-add-t16 c =
+add-t17 : tie.Need-add-t17
+add-t17 c =
     let tiles = c .before .before .before .before .before .before in
     omega (arith, tiles .before .before .before .before .before .before .before .pre .1 .0)
 
@@ -71,6 +71,6 @@ channel-rows-spec =
     hierarchy-requires
     channel-row-requires
     put-row-requires
-    add-t16
+    add-t17
     same-length
     returns)

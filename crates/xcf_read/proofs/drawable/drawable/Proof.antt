@@ -22,7 +22,7 @@ layer-rows-requires : tie.Need-layer-rows-requires
 layer-rows-requires c κs =
     let pre = c .before .before .before .before .pre in
     let two = layer-most _ (c .before .if1 .taken) in
-    (pre .0 .0, (omega (arith, two, pre .1 .0), omega (arith, two, pre .1)))
+    ((pre .0 .0, pre .0 .1), (omega (arith, two, pre .1 .0), omega (arith, two, pre .1)))
 
 channel-owner-requires : tie.Need-channel-owner-requires
 channel-owner-requires c κs = search needs

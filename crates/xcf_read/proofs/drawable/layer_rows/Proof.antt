@@ -38,7 +38,7 @@ mask-rows-requires c κs =
     let read = put .before .before .before .before .before .before .before .before .before in
     let start = read .before .before .before in
     let low = read .read-layer .ensures .1 in
-    ((start .pre .0, low .width, low .height), (start .pre .1 .0, rw (put .put-row .ensures, put-length) (start .pre .1 .1)))
+    ((start .pre .0 .0, start .pre .0 .1, low .width, low .height), (start .pre .1 .0, rw (put .put-row .ensures, put-length) (start .pre .1 .1)))
 
 same-length : tie.Need-same-length
 same-length c = search needs

@@ -9,8 +9,8 @@ use Rattle.xcf_read.specs.Drawable.{maskRows}
 use Rattle.xcf_read.proofs.drawable.mask_rows.Statement.{statement}
 use Rattle.xcf_read.proofs.drawable.mask_rows.Tie as tie
 
-add-t8 : tie.Need-add-t8
-add-t8 c = search needs
+add-t9 : tie.Need-add-t9
+add-t9 c = search needs
 
 returns : tie.Need-returns
 unfolding maskRows
@@ -56,7 +56,7 @@ pub mask-rows-spec : {M : Type 1} → statement M
 mask-rows-spec =
     tie.close
     (tie.spec
-    add-t8
+    add-t9
     returns
     cast-jump
     jump-requires

@@ -8,10 +8,17 @@ use Rattle.xcf_read.proofs.image.drawables.Statement.{statement}
 use Rattle.xcf_read.proofs.image.drawables.Tie as tie
 
 abbrev Inv-loop : tie.InvT-loop
-Inv-loop file table₀ kind c at n k next₀ rows₀ link₀ i₀ table next rows link i = Going file next₀ kind c at n k table₀ table next rows link i
+Inv-loop file size table₀ kind c at n k next₀ rows₀ link₀ i₀ table next rows link i = Going size file next₀ kind c at n k table₀ table next rows link i
 
 abbrev μ-loop : tie.MeasureT-loop
-μ-loop file table₀ kind c at n k next₀ rows₀ link₀ i₀ table next rows link i = n - i
+μ-loop file size table₀ kind c at n k next₀ rows₀ link₀ i₀ table next rows link i = n - i
+
+-- from the drawable read to the pointer that was followed, to the turn, and to the start
+abbrev followed : tie.After-drawable Inv-loop μ-loop → tie.After-pointer Inv-loop μ-loop
+followed c = c .before .before .before .before .before
+
+abbrev begin : tie.In-loop Inv-loop μ-loop → tie.Start Inv-loop μ-loop
+begin c = c .before .before .before .before .before
 
 start-requires : tie.Need-start-requires Inv-loop μ-loop
 start-requires c κs = search needs
@@ -19,8 +26,8 @@ start-requires c κs = search needs
 loop-holds : tie.Need-loop-holds Inv-loop μ-loop
 loop-holds c = going-start (c .start .ensures) (c .before .before .before .pre .1 .1)
 
-word-requires : tie.Need-word-requires Inv-loop μ-loop
-word-requires c κs = search needs
+pointer-requires : tie.Need-pointer-requires Inv-loop μ-loop
+pointer-requires c κs = search needs
 
 cast-jump : tie.Need-cast-jump Inv-loop μ-loop
 cast-jump c = search needs
@@ -30,12 +37,13 @@ jump-requires c κs = search needs
 
 drawable-requires : tie.Need-drawable-requires Inv-loop μ-loop
 drawable-requires c κs =
-    let l = c .before .before .before .before .before .before .loop in
-    let p = c .before .before .before .before .before .before .before .before .before .before .pre in
-    (p .0, (omega (arith, room-for-one (l .inv) (c .before .before .before .before .before .loop-test .taken), p .1 .0), l .inv .size ∙ p .1 .0 .2))
+    let t = c .before .before .before .before .before in
+    let i = t .before .loop .inv in
+    let p = begin t .pre in
+    (p .0, (omega (arith, room-for-one i (t .loop-test .taken), p .1 .0), i .kept ∙ p .1 .0 .2))
 
 add-i : tie.Need-add-i Inv-loop μ-loop
-add-i c = search needs
+add-i c = let t = followed (c .before .before .before) .before in omega (arith, t .loop-test .taken, begin t .pre .1 .0 .0)
 
 loop-less : tie.Need-loop-less Inv-loop μ-loop
 loop-less c = search needs
@@ -43,11 +51,11 @@ loop-less c = search needs
 loop-again : tie.Need-loop-again Inv-loop μ-loop
 loop-again c =
     let b = c .before .before .before in
-    let r = b .before .before .before .before .before in
-    going-next (r .before .before .loop .inv) (r .before .loop-test .taken) (r .word .ensures .leads) (b .before .before .jump .ensures) (b .drawable .ensures .0) (b .drawable .ensures .1)
+    let r = followed b in
+    going-next (r .before .before .loop .inv) (r .before .loop-test .taken) (r .pointer .ensures .leads) (b .before .before .jump .ensures) (b .drawable .ensures .0) (b .drawable .ensures .1)
 
 same-length : tie.Need-same-length Inv-loop μ-loop
-same-length c = c .before .loop .inv .size
+same-length c = c .before .loop .inv .kept
 
 returns : tie.Need-returns Inv-loop μ-loop
 returns c = going-over (c .before .loop .inv) (omega arith)
@@ -60,7 +68,7 @@ drawables-spec =
     μ-loop
     start-requires
     loop-holds
-    word-requires
+    pointer-requires
     cast-jump
     jump-requires
     drawable-requires

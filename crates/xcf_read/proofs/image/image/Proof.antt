@@ -33,8 +33,8 @@ drawables-requires c κs =
     let pre = c .before .before .before .before .before .before .before .before .pre in
     let layers = c .before .before .before .pointers .ensures in
     let small = canvas-small (c .before) in (
-      (pre .0, small .0, small .1),
-      ((omega (arith, layers .1 .0), omega (arith, layers .1), pre .1), λ z. layers .1 .1 (live-before (c .before .before .pointers2 .ensures .0) z)),
+      (pre .0, pre .1, small .0, small .1),
+      ((omega (arith, layers .1 .0), omega (arith, layers .1), pre .2), λ z. layers .1 .1 (live-before (c .before .before .pointers2 .ensures .0) z)),
     )
 
 drawables-requires-2 : tie.Need-drawables-requires-2
@@ -45,9 +45,9 @@ drawables-requires-2 c κs =
     let channels = first .before .before .before .pointers2 .ensures in
     let layers = first .before .before .before .before .pointers .ensures in
     let small = canvas-small (first .before .before) in (
-      (pre .0, small .0, small .1),
+      (pre .0, pre .1, small .0, small .1),
       (
-        (omega (arith, channels .1), omega (arith, first .drawables .ensures .1, layers .1, channels .1), first .drawables .ensures .0 .size ∙ pre .1),
+        (omega (arith, channels .1), omega (arith, first .drawables .ensures .1, layers .1, channels .1), first .drawables .ensures .0 .size ∙ pre .2),
         λ z. channels .1 .1 (live-before (first .drawables .ensures .0 .leads) z),
       ),
     )
@@ -67,7 +67,7 @@ returns c =
           (then _ (rw canvas at (first .drawables .ensures .0 .leads)) (then _ (rw canvas at (d .0 .leads)) ends)))),
       (
         omega (arith, d .1, first .drawables .ensures .1, b .before .pointers .ensures .1, b .pointers2 .ensures .1),
-        d .0 .size ∙ first .drawables .ensures .0 .size ∙ b .before .before .before .before .before .before .pre .1,
+        d .0 .size ∙ first .drawables .ensures .0 .size ∙ b .before .before .before .before .before .before .pre .2,
       ),
     )
 

@@ -9,10 +9,10 @@ use Rattle.xcf_read.proofs.image.pointers.Statement.{statement}
 use Rattle.xcf_read.proofs.image.pointers.Tie as tie
 
 abbrev Inv-loop : tie.InvT-loop
-Inv-loop file most next₀ count₀ again₀ next count again = Going file next₀ most again next count
+Inv-loop file size most next₀ count₀ again₀ next count again = Going size file next₀ most again next count
 
 abbrev μ-loop : tie.MeasureT-loop
-μ-loop file most next₀ count₀ again₀ next count again = cond again (suc (most - count)) 0
+μ-loop file size most next₀ count₀ again₀ next count again = cond again (suc (most - count)) 0
 
 loop-holds : tie.Need-loop-holds Inv-loop μ-loop
 loop-holds c = going-start

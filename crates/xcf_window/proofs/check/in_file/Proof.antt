@@ -1,11 +1,19 @@
 -- `in_file` meets its contract: its two tests are the definition's, of the count and of the closing word's place.
+use Prim.Native.Nat.{_+_, _*_, _≤_}
 use mathlib.Core.Path.{sym, _∙_}
+use native.Mathlib.Nat.{mul-le-mul-right}
+use native.Mathlib.Omega.{arith}
 use borrow.Author.Needs.{needs}
 use borrow.Author.Tests.{eq-eqb, ne-eqb}
+use Rattle.xcf_store.proofs.Sizes.{some-bytes}
 use Rattle.xcf_grid.specs.Grid.{tileCount}
 use Rattle.xcf_window.specs.Usable.{inFile}
 use Rattle.xcf_window.proofs.check.in_file.Statement.{statement}
 use Rattle.xcf_window.proofs.check.in_file.Tie as tie
+
+-- the pointers and the closing word have few bytes
+most : (c : tie.Else1) → let s = c .before .before .before in s .args .size * (s .args .row .count + 1) ≤ 8 * (s .args .row .count + 1)
+most c = let s = c .before .before .before in mul-le-mul-right (s .args .row .count + 1) (some-bytes (s .pre) .1)
 
 cast-if1 : tie.Need-cast-if1
 cast-if1 c = search needs
@@ -29,10 +37,10 @@ add-result : tie.Need-add-result
 add-result c = search needs
 
 mul-result : tie.Need-mul-result
-mul-result c = search needs
+mul-result c = omega (arith, most (c .before .before))
 
 add-result-2 : tie.Need-add-result-2
-add-result-2 c = search needs
+add-result-2 c = omega (arith, most (c .before .before))
 
 returns-2 : tie.Need-returns-2
 unfolding inFile

@@ -1,11 +1,11 @@
 -- `decode_one` meets its contract: the window lies in the file, the pixels fit the scratch, and what the decoding gives is the tile's.
 use Prim.Native.Nat.{_*_, _≤_, _<_}
 use mathlib.Core.Path.{sym}
+use native.Mathlib.Nat.{mul-le-mul-left}
 use native.Mathlib.Omega.{arith}
 use borrow.Author.Needs.{needs}
 use lib.ListN.{length}
 use lib.Seq.{length-take-le}
-use Rattle.xcf_parse.specs.Hierarchy.{pointerSize}
 use Rattle.xcf_window.proofs.OneTile.{pointers-inside, mark-small, pixels-small, scratched}
 use Rattle.xcf_window.proofs.TilePointers.{window-inside}
 use Rattle.xcf_window.proofs.tile.decode_one.Statement.{statement}
@@ -17,23 +17,25 @@ pixels-fit s = let p = s .pre in pixels-small (p .0) (p .1 .0) (p .1 .1)
 window-in-file : (w : tie.After-window-end) → (w .before .pointer-at .result < w .window-end .result) × (w .window-end .result ≤ length (w .before .before .before .before .args .file .now))
 window-in-file w =
     let s = w .before .before .before .before in
-    let i = window-inside pointerSize (s .args .file .now) (s .args .row) (s .pre .0 .pointers) (s .args .t) (s .pre .1 .0) in
+    let i = window-inside (s .args .size) (s .args .file .now) (s .args .row) (s .pre .0 .pointers) (s .args .t) (s .pre .1 .0) in
     (omega (arith, i .0, w .before .pointer-at .ensures, w .window-end .ensures), omega (arith, i .1, w .window-end .ensures))
 
 pointer-at-requires : tie.Need-pointer-at-requires
-pointer-at-requires c κs = let p = c .before .before .pre in omega (arith, pointers-inside (p .0), p .1 .0)
+pointer-at-requires c κs =
+    let s = c .before .before in
+    (s .pre .0 .sized, omega (arith, pointers-inside (s .pre .0), mul-le-mul-left (s .args .size) (s .pre .1 .0)))
 
 window-end-requires : tie.Need-window-end-requires
-window-end-requires c κs = let p = c .before .before .before .pre in (p .1 .0, pointers-inside (p .0))
+window-end-requires c κs = let p = c .before .before .before .pre in (p .0 .sized, p .1 .0, pointers-inside (p .0))
 
-mul-size : tie.Need-mul-size
-mul-size c = omega (arith, pixels-fit (c .before .before .before .before .before) .0)
+mul-bytes : tie.Need-mul-bytes
+mul-bytes c = omega (arith, pixels-fit (c .before .before .before .before .before) .0)
 
-mul-size-2 : tie.Need-mul-size-2
-mul-size-2 c = omega (arith, pixels-fit (c .before .before .before .before .before .before) .1)
+mul-bytes-2 : tie.Need-mul-bytes-2
+mul-bytes-2 c = omega (arith, pixels-fit (c .before .before .before .before .before .before) .1)
 
-cast-size : tie.Need-cast-size
-cast-size c = omega (arith, pixels-fit (c .before .before .before .before .before .before) .1)
+cast-bytes : tie.Need-cast-bytes
+cast-bytes c = omega (arith, pixels-fit (c .before .before .before .before .before .before) .1)
 
 sub-decode-tile : tie.Need-sub-decode-tile
 sub-decode-tile c = omega (arith, window-in-file (c .before .before) .0)
@@ -64,7 +66,7 @@ returns c =
 cast-result : tie.Need-cast-result
 cast-result c =
     let a = c .before .before .before .before .before .before .before .before .before .before .before .before .args in
-    omega (arith, returns c .mark, mark-small pointerSize (a .file .now) (a .row) (a .compression) (a .t))
+    omega (arith, returns c .mark, mark-small (a .size) (a .file .now) (a .row) (a .compression) (a .t))
 
 same-length : tie.Need-same-length
 same-length c = search needs
@@ -75,9 +77,9 @@ decode-one-spec =
     (tie.spec
     pointer-at-requires
     window-end-requires
-    mul-size
-    mul-size-2
-    cast-size
+    mul-bytes
+    mul-bytes-2
+    cast-bytes
     sub-decode-tile
     part-decode-tile-start
     part-decode-tile-end

@@ -1,5 +1,7 @@
 -- `window_end` meets its contract, by whether another tile follows.
-use Prim.Native.Nat.{_+_}
+use Prim.Native.Nat.{_+_, _*_, _≤_}
+use native.Mathlib.Nat.{mul-le-mul-left}
+use native.Mathlib.Omega.{arith}
 use borrow.Author.Needs.{needs}
 use borrow.Author.Tests.{lt-ltb, le-ltb}
 use Rattle.xcf_window.specs.Window.{windowEnd}
@@ -10,7 +12,10 @@ add-next : tie.Need-add-next
 add-next c = search needs
 
 pointer-at-requires : tie.Need-pointer-at-requires
-pointer-at-requires c κs = search needs
+pointer-at-requires c κs =
+    let s = c .before .before .before in
+    let fewer : s .args .size * (s .args .t + 1 + 1) ≤ s .args .size * (s .args .row .count + 1) = mul-le-mul-left (s .args .size) (omega (arith, s .pre .1)) in
+    (s .pre .0, omega (arith, fewer, s .pre .2))
 
 returns : tie.Need-returns
 unfolding windowEnd
