@@ -55,7 +55,7 @@ fn put_copy(output: &mut [u8], to: usize, stream: &[u8], at: usize, count: usize
     body + n
 }
 
-// The segment at `at`.
+// The operation of the segment at `at`.
 fn put_segment(
     output: &mut [u8],
     to: usize,

@@ -14,6 +14,7 @@ Inv-loop stream at₀ size₀ at size = SizeLeft stream at size
 abbrev μ-loop : tie.MeasureT-loop
 μ-loop stream at₀ size₀ at size = length stream - at
 
+-- from the place behind a segment read to the loop's head, and to the start
 abbrev head : tie.After-segment-at Inv-loop μ-loop → tie.At-loop Inv-loop μ-loop
 head c = c .before .before
 
@@ -23,7 +24,7 @@ start c = head c .before .before
 -- one turn
 turned : (c : tie.After-segment-size Inv-loop μ-loop)
     → let r = c .before .segment-at .result in
-      SizeLeft (start (c .before) .args .stream .now) (head (c .before) .loop .at + r .count) (head (c .before) .loop .size + c .segment-size .result)
+    SizeLeft (start (c .before) .args .stream .now) (head (c .before) .loop .at + r .count) (head (c .before) .loop .size + c .segment-size .result)
 turned c =
     let s = c .before .segment-at .ensures in
     size-turn (head (c .before) .loop .inv) s _ (c .segment-size .ensures (start (c .before) .args .stream .now) (head (c .before) .loop .at) (s .inside))

@@ -5,21 +5,15 @@ use Rattle.xcf_segment.proofs.SegmentsLoop.{read-run, read-copy}
 use Rattle.xcf_segment.proofs.put.put_segment.Statement.{statement}
 use Rattle.xcf_segment.proofs.put.put_segment.Tie as tie
 
--- from the place where a part is asked for to the start
-abbrev run-start : tie.Then1 → tie.Start
-run-start c = c .before .before .before
-
-abbrev copy-start : tie.Else1 → tie.Start
-copy-start c = c .before .before .before
-
 shared-slice-read-put-run : tie.Need-shared-slice-read-put-run
 shared-slice-read-put-run c = search needs
 
 put-run-requires : tie.Need-put-run-requires
 put-run-requires c κs =
     let t = c .before .before in
-    let a = run-start t .args in
-    let p = run-start t .pre in
+    let s = t .before .before .before in
+    let a = s .args in
+    let p = s .pre in
     (p .0 .1 .some, (omega (arith, p .0), rw (read-run (a .stream .now) (a .at) (a .segment) (t .if1 .taken)) at (p .1)))
 
 same-length : tie.Need-same-length
@@ -31,8 +25,9 @@ returns c = let p = c .before .before in rw (p .before .before .before .if1 .tak
 put-copy-requires : tie.Need-put-copy-requires
 put-copy-requires c κs =
     let t = c .before in
-    let a = copy-start t .args in
-    let p = copy-start t .pre in
+    let s = t .before .before .before in
+    let a = s .args in
+    let p = s .pre in
     (p .0 .1 .some, (omega (arith, p .0), (p .0 .1 .inside, rw (read-copy (a .stream .now) (a .at) (a .segment) (t .if1 .left)) at (p .1))))
 
 same-length-2 : tie.Need-same-length-2

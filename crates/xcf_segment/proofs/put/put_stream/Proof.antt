@@ -1,6 +1,5 @@
 -- The invariant is `StoreLeft`; a turn is `store-turn` at the segment that was read and the bytes that were put.
 use Prim.Native.Nat.{_-_}
-use native.Mathlib.Omega.{arith}
 use borrow.Author.Needs.{needs}
 use lib.ListN.{length}
 use Rattle.xcf_segment.proofs.SegmentsLoop.{StoreLeft, store-turn, store-room, store-whole}
