@@ -14,7 +14,7 @@ use Rattle.xcf_segment.specs.Segment.{encodeStream}
 use Rattle.xcf_encode.specs.Tile.{encodeTile}
 use Rattle.xcf_encode.specs.Answer.{roomRefusal, streamRefusal, tileRefusal, encodeAnswer, encodeOutput, StreamEncoded, TileEncoded}
 use Rattle.xcf_store.specs.Put.{Put}
-use Rattle.xcf_encode.specs.Parts.{Fitted}
+use Rattle.xcf_encode.specs.Parts.{EncodedInto}
 use Rattle.xcf_tile.specs.Answer.{usableTile}
 
 -- a refusal
@@ -36,13 +36,13 @@ unfolding encodeOutput
 stored-output {old} {e} h p = p .output ∙ rw (sets-eq e old 0 (omega arith), zero-add)
 
 -- where nothing but room is asked for
-pub no-room : (e old : List ℕ) → length old < length e → Fitted e old (record { number = 18; place = 0; length = 0 }) old
+pub no-room : (e old : List ℕ) → length old < length e → EncodedInto e old (record { number = 18; place = 0; length = 0 }) old
 unfolding roomRefusal
 no-room e old h =
     let r : roomRefusal (length e) (length old) ≡ 18 = rw (lt-ltb _ _ h) in
     record { answer = rw r (refused-answer 18 e (λ z. omega arith)); output = rw r (refused-output 18 e old (λ z. omega arith)) }
 
-pub stored : {e old : List ℕ} {r : ℕ} {new : List ℕ} → length e ≤ length old → Put old 0 e r new → Fitted e old (record { number = 0; place = 0; length = r }) new
+pub stored : {e old : List ℕ} {r : ℕ} {new : List ℕ} → length e ≤ length old → Put old 0 e r new → EncodedInto e old (record { number = 0; place = 0; length = r }) new
 unfolding roomRefusal
 stored {e} {old} h p =
     let r : roomRefusal (length e) (length old) ≡ 0 = rw (le-ltb _ _ h) in
@@ -55,9 +55,9 @@ too-long stream old h =
     let r : streamRefusal stream (length old) ≡ 11 = rw (lt-ltb _ _ h) in
     record { answer = rw r (refused-answer 11 _ (λ z. omega arith)); output = rw r (refused-output 11 _ old (λ z. omega arith)) }
 
-pub stream-fitted : {stream old : List ℕ} {r : EncodeAnswer} {new : List ℕ} → length stream ≤ 4096 → Fitted (encodeStream stream) old r new → StreamEncoded stream old r new
+pub stream-encoded : {stream old : List ℕ} {r : EncodeAnswer} {new : List ℕ} → length stream ≤ 4096 → EncodedInto (encodeStream stream) old r new → StreamEncoded stream old r new
 unfolding streamRefusal
-stream-fitted {stream} {old} h f =
+stream-encoded {stream} {old} h f =
     let r : streamRefusal stream (length old) ≡ roomRefusal (length (encodeStream stream)) (length old) = rw (le-ltb _ _ h) in
     record { answer = rw r (f .answer); output = rw r (f .output) }
 
@@ -75,8 +75,8 @@ module _ (pixels : List ℕ) (w h depth : ℕ) (old : List ℕ) where
       let r : tileRefusal w h depth pixels (length old) ≡ 11 = rw (u, ne-eqb _ _ l) in
       record { answer = rw r (refused-answer 11 _ (λ z. omega arith)); output = rw r (refused-output 11 _ old (λ z. omega arith)) }
 
-pub tile-fitted : {pixels : List ℕ} {w h depth : ℕ} {old : List ℕ} {r : EncodeAnswer} {new : List ℕ} → usableTile w h depth ≡ true → length pixels ≡ w * h * depth → Fitted (encodeTile (w * h) depth pixels) old r new → TileEncoded pixels w h depth old r new
+pub tile-encoded : {pixels : List ℕ} {w h depth : ℕ} {old : List ℕ} {r : EncodeAnswer} {new : List ℕ} → usableTile w h depth ≡ true → length pixels ≡ w * h * depth → EncodedInto (encodeTile (w * h) depth pixels) old r new → TileEncoded pixels w h depth old r new
 unfolding tileRefusal
-tile-fitted {pixels} {w} {h} {depth} {old} u l f =
+tile-encoded {pixels} {w} {h} {depth} {old} u l f =
     let r : tileRefusal w h depth pixels (length old) ≡ roomRefusal (length (encodeTile (w * h) depth pixels)) (length old) = rw (u, eq-eqb _ _ l) in
     record { answer = rw r (f .answer); output = rw r (f .output) }

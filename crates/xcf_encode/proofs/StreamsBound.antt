@@ -2,12 +2,13 @@
 --     all-bound                      over the count of streams
 --     parts-within, planes-within    the streams that it is for
 -- Assumes nothing.
-use mathlib.Core.List.{List, [], _∷_}
+use mathlib.Core.List.{List, [], _∷_, flatMap}
 use Prim.Native.Nat.{ℕ, zero, suc, _+_, _*_, _≤_}
 use native.Mathlib.Omega.{arith}
 use lib.ListN.{length, take, drop, length-append, length-take}
-use Rattle.xcf_encode.specs.Tile.{plane, planes, encodeAll}
+use Rattle.xcf_encode.specs.Tile.{plane, planes}
 use Rattle.xcf_encode.specs.Parts.{mostBytes, parts}
+use Rattle.xcf_segment.specs.Segment.{encodeStream}
 use Rattle.xcf_encode.proofs.Planes.{plane-length}
 use Rattle.xcf_segment.proofs.Bound.{bound}
 
@@ -16,8 +17,8 @@ pub data Within (n : ℕ) : ℕ → List (List ℕ) → Type 0 where
   none : Within n 0 []
   more : {count : ℕ} {ps : List (List ℕ)} (p : List ℕ) → length p ≤ n → Within n count ps → Within n (suc count) (p ∷ ps)
 
-pub all-bound : {n count : ℕ} {ps : List (List ℕ)} → Within n count ps → length (encodeAll ps) ≤ count * mostBytes n
-unfolding encodeAll
+pub all-bound : {n count : ℕ} {ps : List (List ℕ)} → Within n count ps → length (flatMap encodeStream ps) ≤ count * mostBytes n
+unfolding flatMap
 all-bound none = omega arith
 all-bound (more p h w) = rw length-append (omega (arith, bound p, all-bound w))
 

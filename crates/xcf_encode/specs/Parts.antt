@@ -7,7 +7,7 @@ use Rattle.xcf_encode.specs.declared.EncodeAnswer.{EncodeAnswer}
 use Rattle.xcf_encode.specs.Answer.{roomRefusal, encodeAnswer, encodeOutput}
 
 -- what is answered and left in the output where nothing but room is asked for
-pub record Fitted (encoding old : List ℕ) (r : EncodeAnswer) (new : List ℕ) : Type 0 where
+pub record EncodedInto (encoding old : List ℕ) (r : EncodeAnswer) (new : List ℕ) : Type 0 where
   pub answer : r ≡ encodeAnswer (roomRefusal (length encoding) (length old)) encoding
   pub output : new ≡ encodeOutput (roomRefusal (length encoding) (length old)) encoding old
 

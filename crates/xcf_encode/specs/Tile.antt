@@ -1,6 +1,6 @@
 -- A tile's encoding: its streams one after the other, one for each byte of the pixel.
 use Prim.Native.Nat.{ℕ, zero, suc, _+_}
-use mathlib.Core.List.{List, [], _∷_, _++_}
+use mathlib.Core.List.{List, [], _∷_, flatMap}
 use lib.ListN.{length, getD}
 use Rattle.xcf_segment.specs.Segment.{segments, encodeStream}
 
@@ -14,14 +14,10 @@ unfoldable pub planes : ℕ → ℕ → ℕ → ℕ → List ℕ → List (List 
 planes zero k n depth pixels = []
 planes (suc count) k n depth pixels = plane n k depth pixels ∷ planes count (k + 1) n depth pixels
 
-unfoldable pub encodeAll : List (List ℕ) → List ℕ
-encodeAll [] = []
-encodeAll (p ∷ ps) = encodeStream p ++ encodeAll ps
-
 unfoldable pub operationsOf : List (List ℕ) → ℕ
 operationsOf [] = 0
 operationsOf (p ∷ ps) = length (segments p) + operationsOf ps
 
 -- n pixels of `depth` bytes each
 unfoldable pub encodeTile : ℕ → ℕ → List ℕ → List ℕ
-encodeTile n depth pixels = encodeAll (planes depth 0 n depth pixels)
+encodeTile n depth pixels = flatMap encodeStream (planes depth 0 n depth pixels)

@@ -1,10 +1,11 @@
 // Streams of n bytes each, one behind the other: measured and encoded.
 ghost use mathlib.Core.Path.{_≡_};
+ghost use mathlib.Core.List.{flatMap};
 ghost use Prim.Native.Nat.{_≤_};
 ghost use lib.ListN.{length};
 ghost use lib.Dec.{leb};
-ghost use Rattle.xcf_encode.specs.Tile.{encodeAll};
-ghost use Rattle.xcf_encode.specs.Parts.{mostBytes, parts, StreamsRoom, Fitted};
+ghost use Rattle.xcf_encode.specs.Parts.{mostBytes, parts, StreamsRoom, EncodedInto};
+ghost use Rattle.xcf_segment.specs.Segment.{encodeStream};
 ghost use Rattle.xcf_store.specs.Put.{Put};
 use crate::EncodeAnswer;
 use xcf_segment::measure::encoded_size;
@@ -21,7 +22,7 @@ fn most_bytes(n: usize) -> usize
 // The length of the streams' encodings.
 fn encoded_sizes(planar: &[u8], n: usize, depth: usize) -> usize
     requires { ⌜ StreamsRoom (now planar) n depth ⌝ }
-    ensures { λ r. ⌜ r ≡ length (encodeAll (parts depth 0 n (now (planar .entry)))) ⌝ }
+    ensures { λ r. ⌜ r ≡ length (flatMap encodeStream (parts depth 0 n (now (planar .entry)))) ⌝ }
 {
     let mut rest = depth;
     let mut at = 0;
@@ -38,7 +39,7 @@ fn encoded_sizes(planar: &[u8], n: usize, depth: usize) -> usize
 // Whether the streams' encodings fit; they are measured only where the most that they can take does not.
 fn fits(planar: &[u8], n: usize, depth: usize, room: usize) -> bool
     requires { ⌜ StreamsRoom (now planar) n depth ⌝ }
-    ensures { λ r. ⌜ r ≡ leb (length (encodeAll (parts depth 0 n (now (planar .entry))))) room ⌝ }
+    ensures { λ r. ⌜ r ≡ leb (length (flatMap encodeStream (parts depth 0 n (now (planar .entry))))) room ⌝ }
 {
     if depth * most_bytes(n) <= room {
         return true;
@@ -49,8 +50,8 @@ fn fits(planar: &[u8], n: usize, depth: usize, room: usize) -> bool
 // The streams' encodings, one behind the other, at the output's start.
 fn put_streams(planar: &[u8], n: usize, depth: usize, output: &mut [u8]) -> usize
     requires { ⌜ StreamsRoom (now planar) n depth ⌝ }
-    requires { ⌜ length (encodeAll (parts depth 0 n (now planar))) ≤ length (now output) ⌝ }
-    ensures { λ r. ⌜ Put (now (output .entry)) 0 (encodeAll (parts depth 0 n (now (planar .entry)))) r (now (output .exit)) ⌝ }
+    requires { ⌜ length (flatMap encodeStream (parts depth 0 n (now planar))) ≤ length (now output) ⌝ }
+    ensures { λ r. ⌜ Put (now (output .entry)) 0 (flatMap encodeStream (parts depth 0 n (now (planar .entry)))) r (now (output .exit)) ⌝ }
 {
     let mut rest = depth;
     let mut at = 0;
@@ -72,7 +73,7 @@ pub(crate) fn encode_streams(
     output: &mut [u8],
 ) -> EncodeAnswer
     requires { ⌜ StreamsRoom (now planar) n depth ⌝ }
-    ensures { λ r. ⌜ Fitted (encodeAll (parts depth 0 n (now (planar .entry)))) (now (output .entry)) r (now (output .exit)) ⌝ }
+    ensures { λ r. ⌜ EncodedInto (flatMap encodeStream (parts depth 0 n (now (planar .entry)))) (now (output .entry)) r (now (output .exit)) ⌝ }
 {
     if fits(planar, n, depth, output.len()) {
         let size = put_streams(planar, n, depth, output);

@@ -3,7 +3,7 @@ ghost use mathlib.Core.Path.{_≡_};
 ghost use Prim.Native.Nat.{_*_, _≤_};
 ghost use lib.ListN.{length};
 ghost use Rattle.xcf_encode.specs.Tile.{plane, planes, encodeTile};
-ghost use Rattle.xcf_encode.specs.Parts.{parts, Pixels, StreamsRoom, Fitted};
+ghost use Rattle.xcf_encode.specs.Parts.{parts, Pixels, StreamsRoom, EncodedInto};
 use crate::EncodeAnswer;
 use crate::streams::encode_streams;
 
@@ -47,7 +47,7 @@ fn encode_within(
 ) -> EncodeAnswer
     requires { ⌜ length (now pixels) ≡ n * depth ⌝ }
     requires { ⌜ StreamsRoom (now planar) n depth ⌝ }
-    ensures { λ r. ⌜ Fitted (encodeTile n depth (now (pixels .entry))) (now (output .entry)) r (now (output .exit)) ⌝ }
+    ensures { λ r. ⌜ EncodedInto (encodeTile n depth (now (pixels .entry))) (now (output .entry)) r (now (output .exit)) ⌝ }
 {
     gather(pixels, n, depth, planar);
     encode_streams(planar, n, depth, output)
@@ -56,7 +56,7 @@ fn encode_within(
 // The encoding of n pixels, with room made for their streams.
 fn encode_gathered(pixels: &[u8], n: usize, depth: usize, output: &mut [u8]) -> EncodeAnswer
     requires { ⌜ (length (now pixels) ≡ n * depth) × ((n ≤ 4096) × (depth ≤ 4)) ⌝ }
-    ensures { λ r. ⌜ Fitted (encodeTile n depth (now (pixels .entry))) (now (output .entry)) r (now (output .exit)) ⌝ }
+    ensures { λ r. ⌜ EncodedInto (encodeTile n depth (now (pixels .entry))) (now (output .entry)) r (now (output .exit)) ⌝ }
 {
     let mut planar = [0u8; 16384];
     encode_within(pixels, n, depth, &mut planar, output)
@@ -70,7 +70,7 @@ pub(crate) fn encode_pixels(
     output: &mut [u8],
 ) -> EncodeAnswer
     requires { ⌜ (length (now pixels) ≡ n * depth) × ((n ≤ 4096) × (depth ≤ 4)) ⌝ }
-    ensures { λ r. ⌜ Fitted (encodeTile n depth (now (pixels .entry))) (now (output .entry)) r (now (output .exit)) ⌝ }
+    ensures { λ r. ⌜ EncodedInto (encodeTile n depth (now (pixels .entry))) (now (output .entry)) r (now (output .exit)) ⌝ }
 {
     if depth == 1 {
         return encode_streams(pixels, n, depth, output);

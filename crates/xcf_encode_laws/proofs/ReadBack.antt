@@ -16,7 +16,7 @@ use Rattle.xcf_operation.specs.Operation.{runHead, copyHead, pair, headAt, head
 use Rattle.xcf_stream.specs.Stream.{gives, streamFrom, streamAt}
 use Rattle.xcf_stream.proofs.StreamLaws.{stream-done, stream-op}
 use Rattle.xcf_laws.proofs.Cases.{by-cases}
-use Rattle.xcf_segment.specs.Segment.{leading, equalBytes, Segment, runOf, copyOf, sizeOf, firstSegment, headBytes, segments, written, encodeStream}
+use Rattle.xcf_segment.specs.Segment.{leading, equalBytes, Segment, runOf, copyOf, sizeOf, firstSegment, headBytes, segments, segmentBytes, encodeStream}
 use Rattle.xcf_segment.proofs.Segments.{first, copied-length, first-some, first-inside, segments-nil, segments-cons, encode-nil, encode-cons, rest-shorter, by-length}
 
 -- what a segment stands for
@@ -115,8 +115,8 @@ module _ (a h z : List ℕ) (left : ℕ) where
 
 -- a segment's operation gives its bytes
 module _ (a z : List ℕ) (left : ℕ) where
-  segment-read : (s : Segment) → 0 < sizeOf s → sizeOf s ≤ left → streamAt (a ++ (written s ++ z)) (length a) left ≡ gives (bytesOf s) (streamAt (a ++ (written s ++ z)) (length a + length (written s)) (left - sizeOf s))
-  unfolding streamFrom written
+  segment-read : (s : Segment) → 0 < sizeOf s → sizeOf s ≤ left → streamAt (a ++ (segmentBytes s ++ z)) (length a) left ≡ gives (bytesOf s) (streamAt (a ++ (segmentBytes s ++ z)) (length a + length (segmentBytes s)) (left - sizeOf s))
+  unfolding streamFrom segmentBytes
   segment-read (runOf count value) some room =
       let h : List ℕ = headBytes count (count - 1) 127 in
       rw (
@@ -153,7 +153,7 @@ module _ (xs : List ℕ) (h : 0 < length xs) (ih : (ys : List ℕ) → length ys
         segments-cons xs h,
         append-assoc,
         segment-read a _ (length xs) s (first-some xs h) (first-inside xs),
-        simp (append-assoc, length-append, length-drop) at (ih rest (rest-shorter xs h) (a ++ written s) z),
+        simp (append-assoc, length-append, length-drop) at (ih rest (rest-shorter xs h) (a ++ segmentBytes s) z),
         first-bytes,
         take-append-drop,
         length-append,

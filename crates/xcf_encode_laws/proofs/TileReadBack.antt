@@ -2,7 +2,7 @@
 -- (`streams-read-back`), and the planes together are the pixels (`planes-together`).
 -- Assumes nothing.
 use mathlib.Core.Path.{_≡_, refl, ap, _∙_}
-use mathlib.Core.List.{List, [], _++_, append-assoc}
+use mathlib.Core.List.{List, [], _++_, flatMap, append-assoc}
 use Prim.Native.Nat.{ℕ, zero, suc, _+_, _-_, _*_, _≤_, _<_}
 use native.Mathlib.Nat.{zero-add, add-zero, add-comm, add-assoc, mul-zero, mul-comm, mul-suc, mul-le-mul, mul-le-mul-left}
 use native.Mathlib.Numerals.{add-one}
@@ -12,7 +12,7 @@ use lib.Seq.{drop-cons, drop-drop, take-add, take-length, take-append-add}
 use Rattle.xcf_stream.specs.Streams.{streamsAt}
 use Rattle.xcf_tile.specs.Tile.{pixel, interleave, tileOf, tileIn, encodedTile, windowLimit}
 use Rattle.xcf_segment.specs.Segment.{encodeStream}
-use Rattle.xcf_encode.specs.Tile.{plane, planes, encodeAll, operationsOf, encodeTile}
+use Rattle.xcf_encode.specs.Tile.{plane, planes, operationsOf, encodeTile}
 use Rattle.xcf_encode.proofs.Planes.{plane-length}
 use Rattle.xcf_encode_laws.proofs.ReadBack.{stream-read-back}
 use Rattle.xcf_encode.proofs.TileBound.{tile-bound}
@@ -27,12 +27,12 @@ plane-at (suc n) at depth pixels (suc i) h =
 
 module _ (n depth : ℕ) (pixels : List ℕ) where
   -- the streams of `count` planes from plane k on
-  streams-read-back : (count k : ℕ) (a z : List ℕ) → streamsAt count (a ++ (encodeAll (planes count k n depth pixels) ++ z)) (length a) n ≡ record { mark = 0; at = length a + length (encodeAll (planes count k n depth pixels)); operations = operationsOf (planes count k n depth pixels); planes = planes count k n depth pixels }
-  unfolding streamsAt planes encodeAll operationsOf
+  streams-read-back : (count k : ℕ) (a z : List ℕ) → streamsAt count (a ++ (flatMap encodeStream (planes count k n depth pixels) ++ z)) (length a) n ≡ record { mark = 0; at = length a + length (flatMap encodeStream (planes count k n depth pixels)); operations = operationsOf (planes count k n depth pixels); planes = planes count k n depth pixels }
+  unfolding streamsAt planes flatMap operationsOf
   streams-read-back zero k a z = rw add-zero
   streams-read-back (suc count) k a z =
       let p : List ℕ = plane n k depth pixels in
-      let rest : List ℕ = encodeAll (planes count (k + 1) n depth pixels) in
+      let rest : List ℕ = flatMap encodeStream (planes count (k + 1) n depth pixels) in
       rw (
         append-assoc,
         rw plane-length at (stream-read-back a p (rest ++ z)),
@@ -80,7 +80,7 @@ window-keeps code z h =
 tile-streams : (n depth : ℕ) (pixels z : List ℕ) → length (encodeTile n depth pixels) ≤ windowLimit → streamsAt depth (take windowLimit (encodeTile n depth pixels ++ z)) 0 n ≡ record { mark = 0; at = length (encodeTile n depth pixels); operations = operationsOf (planes depth 0 n depth pixels); planes = planes depth 0 n depth pixels }
 unfolding encodeTile
 tile-streams n depth pixels z h =
-    let code : List ℕ = encodeAll (planes depth 0 n depth pixels) in
+    let code : List ℕ = flatMap encodeStream (planes depth 0 n depth pixels) in
     rw window-keeps (rw zero-add at (streams-read-back n depth pixels depth 0 [] (take (windowLimit - length code) z)))
 
 pub tile-read-back : (w h depth : ℕ) (pixels z : List ℕ) → w ≤ 64 → h ≤ 64 → depth ≤ 4 → length pixels ≡ w * h * depth → tileOf (encodeTile (w * h) depth pixels ++ z) w h depth 1 ≡ record { mark = 0; consumed = length (encodeTile (w * h) depth pixels); operations = operationsOf (planes depth 0 (w * h) depth pixels); pixels = pixels }

@@ -1,15 +1,15 @@
 -- The places of a drawable's tiles rise (`tiles-rise`): no encoding is empty.
 -- Assumes nothing.
 use Prim.Native.Nat.{ℕ, zero, suc, _+_, _≤_, _<_}
-use mathlib.Core.List.{List}
+use mathlib.Core.List.{List, flatMap}
 use native.Mathlib.Nat.{mul-le-mul}
 use native.Mathlib.Omega.{arith}
 use lib.ListN.{length, length-append}
 use Rattle.xcf_table.specs.declared.Row.{Row}
-use Rattle.xcf_segment.specs.Segment.{Segment, runOf, copyOf, sizeOf, firstSegment, written, encodeStream}
-use Rattle.xcf_encode.specs.Tile.{plane, planes, encodeAll, encodeTile}
+use Rattle.xcf_segment.specs.Segment.{Segment, runOf, copyOf, sizeOf, firstSegment, segmentBytes, encodeStream}
+use Rattle.xcf_encode.specs.Tile.{plane, planes, encodeTile}
 use Rattle.xcf_segment.proofs.Segments.{first-some, encode-cons}
-use Rattle.xcf_segment.proofs.Written.{run-length, copy-length}
+use Rattle.xcf_segment.proofs.SegmentBytes.{run-length, copy-length}
 use Rattle.xcf_encode.proofs.Planes.{plane-length}
 use Rattle.xcf_drawable.specs.Drawable.{Drawable, encodings, tilesOf, joined, starts}
 use Rattle.xcf_drawable.specs.Parts.{Writable, encodingOf}
@@ -19,15 +19,15 @@ use Rattle.xcf_drawable.proofs.EncodingBound.{tiled}
 use Rattle.xcf_round_trip.proofs.Parts.{Rises}
 
 -- an operation has a byte at least, and so have the encodings of a stream that is not empty and of a tile
-written-some : (s : Segment) → 0 < sizeOf s → 0 < length (written s)
-written-some (runOf count value) h = rw run-length (omega arith)
-written-some (copyOf bytes) h = rw copy-length (omega arith)
+bytes-some : (s : Segment) → 0 < sizeOf s → 0 < length (segmentBytes s)
+bytes-some (runOf count value) h = rw run-length (omega arith)
+bytes-some (copyOf bytes) h = rw copy-length (omega arith)
 
 stream-some : (xs : List ℕ) → 0 < length xs → 0 < length (encodeStream xs)
-stream-some xs h = rw (encode-cons xs h, length-append) (omega (arith, written-some (firstSegment xs) (first-some xs h)))
+stream-some xs h = rw (encode-cons xs h, length-append) (omega (arith, bytes-some (firstSegment xs) (first-some xs h)))
 
 tile-some : (n depth : ℕ) (pixels : List ℕ) → 1 ≤ n → 1 ≤ depth → 0 < length (encodeTile n depth pixels)
-unfolding encodeTile encodeAll planes
+unfolding encodeTile flatMap planes
 tile-some n zero pixels some deep = absurd (omega arith)
 tile-some n (suc depth) pixels some deep =
     rw length-append (omega (arith, stream-some (plane n 0 (suc depth) pixels) (rw plane-length some)))

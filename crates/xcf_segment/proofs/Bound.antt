@@ -10,16 +10,16 @@ use borrow.Author.Tests.{leb-false, le-leb}
 use lib.ListN.{length, getD, take, drop, length-append, length-drop}
 use lib.Dec.{leb}
 use Rattle.xcf_laws.proofs.Cases.{by-cases}
-use Rattle.xcf_segment.specs.Segment.{equalBytes, copiedBytes, runOf, copyOf, written, encodeStream}
+use Rattle.xcf_segment.specs.Segment.{equalBytes, copiedBytes, runOf, copyOf, segmentBytes, encodeStream}
 use Rattle.xcf_segment.proofs.Segments.{first, first-run, first-copy, copied-length, equal-inside, copied-inside, encode-nil, encode-cons, by-length}
 
-run-size : (count value : ℕ) → 3 ≤ count → length (written (runOf count value)) < count
-unfolding written
+run-size : (count value : ℕ) → 3 ≤ count → length (segmentBytes (runOf count value)) < count
+unfolding segmentBytes
 run-size count value h =
     by-cases (λ l. length (l ++ (value ∷ [])) < count) (leb count 127) _ _ (λ s. omega arith) (λ l. omega (arith, leb-false))
 
-copy-size : (bytes : List ℕ) → length (written (copyOf bytes)) ≤ length bytes + 1 + 2 * min 1 (length bytes / 128)
-unfolding written
+copy-size : (bytes : List ℕ) → length (segmentBytes (copyOf bytes)) ≤ length bytes + 1 + 2 * min 1 (length bytes / 128)
+unfolding segmentBytes
 copy-size bytes =
     by-cases (λ l. length (l ++ bytes) ≤ length bytes + 1 + 2 * min 1 (length bytes / 128)) (leb (length bytes) 127) _ _
     (λ s. omega arith) (λ l. omega (arith, leb-false))

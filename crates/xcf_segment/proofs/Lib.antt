@@ -1,5 +1,5 @@
 pub mod Segments
 pub mod Scan
-pub mod Written
+pub mod SegmentBytes
 pub mod SegmentsLoop
 pub mod Bound

@@ -4,7 +4,7 @@
 --     by-length      strong induction on a stream's length
 -- Assumes nothing.
 use mathlib.Core.Path.{_≡_, refl, ap}
-use mathlib.Core.List.{List, [], _∷_, _++_}
+use mathlib.Core.List.{List, [], _∷_, _++_, flatMap}
 use mathlib.Core.Bool.{true, false}
 use Prim.Native.Nat.{ℕ, zero, suc, _≤_, _<_}
 use native.Mathlib.Omega.{arith}
@@ -12,7 +12,7 @@ use borrow.Author.Tests.{leb-true}
 use lib.ListN.{length, getD, take, drop, length-take, length-drop}
 use lib.Dec.{leb, eqb}
 use Rattle.xcf_laws.proofs.Cases.{by-cases}
-use Rattle.xcf_segment.specs.Segment.{leading, equalBytes, copiedBytes, Segment, runOf, copyOf, sizeOf, firstSegment, segmentsWithin, segments, written, writtenAll, encodeStream}
+use Rattle.xcf_segment.specs.Segment.{leading, equalBytes, copiedBytes, Segment, runOf, copyOf, sizeOf, firstSegment, segmentsWithin, segments, segmentBytes, encodeStream}
 
 leading-inside : (v : ℕ) (xs : List ℕ) → leading v xs ≤ length xs
 unfolding leading
@@ -92,11 +92,11 @@ segments-cons (x ∷ xs) h =
     (within-same (length xs) (length rest) rest (omega (arith, rest-shorter (x ∷ xs) h)) (omega arith))
 
 pub encode-nil : encodeStream [] ≡ []
-unfolding encodeStream writtenAll
+unfolding encodeStream flatMap
 encode-nil = rw segments-nil
 
-pub encode-cons : (xs : List ℕ) → 0 < length xs → encodeStream xs ≡ written (firstSegment xs) ++ encodeStream (drop (sizeOf (firstSegment xs)) xs)
-unfolding encodeStream writtenAll
+pub encode-cons : (xs : List ℕ) → 0 < length xs → encodeStream xs ≡ segmentBytes (firstSegment xs) ++ encodeStream (drop (sizeOf (firstSegment xs)) xs)
+unfolding encodeStream flatMap
 encode-cons xs h = rw (segments-cons xs h)
 
 -- strong induction on a stream's length

@@ -1,7 +1,7 @@
 -- How a stream is written: at a place where three or more equal bytes start, a run of them all; otherwise a copy up to the
 -- next such place or the end. Up to 127 bytes are a short operation, more a long one.
 use Prim.Native.Nat.{ℕ, zero, suc, _-_, _/_, _%_}
-use mathlib.Core.List.{List, [], _∷_, _++_}
+use mathlib.Core.List.{List, [], _∷_, _++_, flatMap}
 use mathlib.Core.Bool.{cond}
 use lib.ListN.{length, getD, take, drop}
 use lib.Dec.{leb, eqb}
@@ -48,13 +48,9 @@ abbrev pub headBytes : ℕ → ℕ → ℕ → List ℕ
 headBytes count short long = cond (leb count 127) (short ∷ []) (long ∷ count / 256 ∷ count % 256 ∷ [])
 
 -- a segment as an operation: opcode, length bytes, data
-unfoldable pub written : Segment → List ℕ
-written (runOf count value) = headBytes count (count - 1) 127 ++ (value ∷ [])
-written (copyOf bytes) = headBytes (length bytes) (256 - length bytes) 128 ++ bytes
-
-unfoldable pub writtenAll : List Segment → List ℕ
-writtenAll [] = []
-writtenAll (s ∷ ss) = written s ++ writtenAll ss
+unfoldable pub segmentBytes : Segment → List ℕ
+segmentBytes (runOf count value) = headBytes count (count - 1) 127 ++ (value ∷ [])
+segmentBytes (copyOf bytes) = headBytes (length bytes) (256 - length bytes) 128 ++ bytes
 
 unfoldable pub encodeStream : List ℕ → List ℕ
-encodeStream xs = writtenAll (segments xs)
+encodeStream xs = flatMap segmentBytes (segments xs)

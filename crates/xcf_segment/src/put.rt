@@ -2,7 +2,8 @@
 ghost use mathlib.Core.List.{[], _∷_};
 ghost use Prim.Native.Nat.{_+_, _-_, _/_, _%_, _≤_, _<_};
 ghost use lib.ListN.{length, take, drop};
-ghost use Rattle.xcf_segment.specs.Segment.{headBytes, written, encodeStream, runOf, copyOf};
+ghost use Rattle.xcf_segment.specs.Segment.{headBytes, segmentBytes, encodeStream, runOf, copyOf};
+ghost use Rattle.xcf_segment.specs.Parts.{SegmentAt, segmentRead};
 ghost use Rattle.xcf_store.specs.Put.{Put};
 use crate::segment::SegmentRead;
 use crate::segment::segment_at;
@@ -19,8 +20,8 @@ fn put_long_head(output: &mut [u8], to: usize, opcode: u8, count: usize) -> usiz
 
 // A run of `count` bytes `value`.
 fn put_run(output: &mut [u8], to: usize, count: usize, value: u8) -> usize
-    requires { ⌜ (0 < count) × ((count ≤ 4096) × (to + length (written (runOf count value)) ≤ length (now output))) ⌝ }
-    ensures { λ r. ⌜ Put (now (output .entry)) to (written (runOf count value)) r (now (output .exit)) ⌝ }
+    requires { ⌜ (0 < count) × ((count ≤ 4096) × (to + length (segmentBytes (runOf count value)) ≤ length (now output))) ⌝ }
+    ensures { λ r. ⌜ Put (now (output .entry)) to (segmentBytes (runOf count value)) r (now (output .exit)) ⌝ }
 {
     if count <= 127 {
         output[to] = (count - 1) as u8;
@@ -45,13 +46,31 @@ fn put_copy_head(output: &mut [u8], to: usize, count: usize) -> usize
 
 // The `count` bytes of the stream at `at`, copied.
 fn put_copy(output: &mut [u8], to: usize, stream: &[u8], at: usize, count: usize) -> usize
-    requires { ⌜ (0 < count) × ((count ≤ 4096) × ((at + count ≤ length (now stream)) × (to + length (written (copyOf (take count (drop at (now stream))))) ≤ length (now output)))) ⌝ }
-    ensures { λ r. ⌜ Put (now (output .entry)) to (written (copyOf (take count (drop at (now (stream .entry)))))) r (now (output .exit)) ⌝ }
+    requires { ⌜ (0 < count) × ((count ≤ 4096) × ((at + count ≤ length (now stream)) × (to + length (segmentBytes (copyOf (take count (drop at (now stream))))) ≤ length (now output)))) ⌝ }
+    ensures { λ r. ⌜ Put (now (output .entry)) to (segmentBytes (copyOf (take count (drop at (now (stream .entry)))))) r (now (output .exit)) ⌝ }
 {
     let body = put_copy_head(output, to, count);
     let end = at + count;
     let n = bytes::copy(&stream[at..end], &mut output[body..]);
     body + n
+}
+
+// The operation of the segment at `at`.
+fn put_segment(
+    output: &mut [u8],
+    to: usize,
+    stream: &[u8],
+    at: usize,
+    segment: SegmentRead,
+) -> usize
+    requires { ⌜ (length (now stream) ≤ 4096) × SegmentAt (now stream) at segment ⌝ }
+    requires { ⌜ to + length (segmentBytes (segmentRead (now stream) at segment)) ≤ length (now output) ⌝ }
+    ensures { λ r. ⌜ Put (now (output .entry)) to (segmentBytes (segmentRead (now (stream .entry)) at segment)) r (now (output .exit)) ⌝ }
+{
+    if segment.run {
+        return put_run(output, to, segment.count, stream[at]);
+    }
+    put_copy(output, to, stream, at, segment.count)
 }
 
 // The stream's encoding at the output's start.
@@ -62,16 +81,9 @@ pub fn put_stream(stream: &[u8], output: &mut [u8]) -> usize
     let mut at = 0;
     let mut to = 0;
     while at < stream.len() {
-        match segment_at(stream, at) {
-            SegmentRead::Run { count } => {
-                to = put_run(output, to, count, stream[at]);
-                at += count;
-            }
-            SegmentRead::Copy { count } => {
-                to = put_copy(output, to, stream, at, count);
-                at += count;
-            }
-        }
+        let segment = segment_at(stream, at);
+        to = put_segment(output, to, stream, at, segment);
+        at += segment.count;
     }
     to
 }

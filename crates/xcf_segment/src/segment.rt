@@ -6,10 +6,10 @@ ghost use lib.Dec.{leb};
 ghost use Rattle.xcf_segment.specs.Segment.{equalBytes, copiedBytes};
 ghost use Rattle.xcf_segment.specs.Parts.{SegmentAt};
 
-// A segment of `count` bytes.
-pub enum SegmentRead {
-    Run { count: usize },
-    Copy { count: usize },
+// A segment of `count` bytes: a run of equal ones, or a copy.
+pub struct SegmentRead {
+    pub run: bool,
+    pub count: usize,
 }
 
 // How many equal bytes start at `at`.
@@ -68,11 +68,13 @@ pub(crate) fn segment_at(stream: &[u8], at: usize) -> SegmentRead
     ensures { λ r. ⌜ SegmentAt (now (stream .entry)) at r ⌝ }
 {
     if three_equal(stream, at) {
-        return SegmentRead::Run {
+        return SegmentRead {
+            run: true,
             count: equal_bytes(stream, at),
         };
     }
-    SegmentRead::Copy {
+    SegmentRead {
+        run: false,
         count: copied_bytes(stream, at),
     }
 }

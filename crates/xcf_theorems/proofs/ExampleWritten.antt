@@ -1,13 +1,13 @@
 -- The example file of document 01 is written: the tests of its table and its bytes are computed.
 -- Assumes nothing.
 use mathlib.Core.Path.{_≡_, refl}
-use mathlib.Core.List.{[], _∷_}
+use mathlib.Core.List.{[], _∷_, flatMap}
 use borrow.Author.Tests.{le-leb}
 use lib.ListN.{length}
 use Rattle.xcf_property.specs.Property.{activeType}
 use Rattle.xcf_table.specs.Table.{rowAt}
-use Rattle.xcf_segment.specs.Segment.{leading, equalBytes, copiedBytes, firstSegment, segmentsWithin, segments, written, writtenAll, encodeStream}
-use Rattle.xcf_encode.specs.Tile.{plane, planes, encodeAll, encodeTile}
+use Rattle.xcf_segment.specs.Segment.{leading, equalBytes, copiedBytes, firstSegment, segmentsWithin, segments, segmentBytes, encodeStream}
+use Rattle.xcf_encode.specs.Tile.{plane, planes, encodeTile}
 use Rattle.xcf_table.specs.declared.canvas.Canvas.{Canvas}
 use Rattle.xcf_table.specs.Canvas.{sideOk, typeOk, depthOf}
 use Rattle.xcf_grid.specs.Pixels.{tabulate, shown}
@@ -30,7 +30,7 @@ unfolding rowAt sideOk typeOk depthOf before rowBefore seenAt masked drawableOk 
 accepted = refl
 
 file : fileOf canvas exampleTable (115 ∷ []) (255 ∷ []) ≡ exampleFile
-unfolding rowAt leading equalBytes copiedBytes firstSegment segmentsWithin segments written writtenAll encodeStream plane planes encodeAll encodeTile tabulate shown activeType masked wordBytes words nameBytes propertyBytes listBytes imageProperties drawableProperties structureBytes hierarchyBytes levelBytes encodings tilesOf joined starts structureSize drawableSize drawableBytes drawablesBytes placesOf versionOf imageBytes imageSize fileBytes usedFrom drawablesFrom fileOf
+unfolding rowAt leading equalBytes copiedBytes firstSegment segmentsWithin flatMap segments segmentBytes encodeStream plane planes encodeTile tabulate shown activeType masked wordBytes words nameBytes propertyBytes listBytes imageProperties drawableProperties structureBytes hierarchyBytes levelBytes encodings tilesOf joined starts structureSize drawableSize drawableBytes drawablesBytes placesOf versionOf imageBytes imageSize fileBytes usedFrom drawablesFrom fileOf
 file = refl
 
 pub example-written : ExampleFileIsWritten

@@ -1,7 +1,7 @@
 -- The theorems of `specs/Statements.antt`, each proved by a citation; the examples by computing them.
 -- Assumes nothing.
 use mathlib.Core.Path.{refl}
-use mathlib.Core.List.{[]}
+use mathlib.Core.List.{[], flatMap}
 use native.Mathlib.Nat.{zero-add, mul-le-mul}
 use native.Mathlib.Omega.{arith}
 use Rattle.xcf_store.specs.Pointer.{pointerSize}
@@ -11,7 +11,7 @@ use Rattle.xcf_stream.specs.Streams.{streamsAt}
 use Rattle.xcf_tile.specs.Tile.{pixel, interleave, encodedTile, tileIn, tileOf}
 use Rattle.xcf_tile_laws.proofs.Consumed.{consumed-decides}
 use Rattle.xcf_tile_laws.proofs.Pixels.{pixels-are-streams as streams-give-pixels, pixels-length, marked-zero}
-use Rattle.xcf_segment.specs.Segment.{leading, equalBytes, copiedBytes, firstSegment, segmentsWithin, segments, written, writtenAll, encodeStream}
+use Rattle.xcf_segment.specs.Segment.{leading, equalBytes, copiedBytes, firstSegment, segmentsWithin, segments, segmentBytes, encodeStream}
 use Rattle.xcf_segment.proofs.Bound.{bound}
 use Rattle.xcf_encode_laws.proofs.ReadBack.{stream-read-back}
 use Rattle.xcf_encode.proofs.TileBound.{tile-bound}
@@ -37,7 +37,7 @@ use Rattle.xcf_theorems.proofs.ExampleDamaged.{example-damaged}
 use Rattle.xcf_theorems.specs.Statements.{ExamplesHold, PassedBytesDecide, StructureBytesDecide, RefusalsAreListed, AcceptedWithoutFault, ExampleFileIsRead, WrittenReadsBack, GivenRowsAreTaken, TakenRowsAreExcepted, ExampleFileIsWritten, WriterRefusalsAreListed, ListerRefusalsAreListed, DamageIsIsolated, ExampleIsDamaged, AcceptedRowsDecode, PixelsAreTheirTiles, EachPixelHasOneTile, TilesAreShown, DecoderRefusalsAreListed, CountIsTheDecoders, MarksAreListed, ConsumedBytesDecide, ConsumedBytesDecideTheCall, PixelsAreStreams, PixelsAreWhole, MarkedPixelsAreZero, EncodedStreamBounded, StreamReadsBack, TileReadsBack, EncodedTileFits}
 
 pub examples-hold : ExamplesHold
-unfolding headOf headAt operationOf operationAt streamFrom streamWithin streamAt streamsAt pixel interleave encodedTile tileIn tileOf leading equalBytes copiedBytes firstSegment segmentsWithin segments written writtenAll encodeStream
+unfolding headOf headAt operationOf operationAt streamFrom streamWithin streamAt streamsAt pixel interleave encodedTile tileIn tileOf leading equalBytes copiedBytes firstSegment segmentsWithin segments segmentBytes flatMap encodeStream
 examples-hold =
     (refl, (refl, (refl, (refl, (refl, (refl, (refl, (refl, (refl, (refl, (refl, (refl, ((refl, (refl, refl)), tt)))))))))))))
 

@@ -1,6 +1,6 @@
 -- A stream over the limit is refused; the answer to any other is that of a buffer of one stream.
 use borrow.Author.Needs.{needs}
-use Rattle.xcf_encode.proofs.Answers.{too-long, stream-fitted}
+use Rattle.xcf_encode.proofs.Answers.{too-long, stream-encoded}
 use Rattle.xcf_encode.proofs.StreamsLoop.{one-encoding}
 use Rattle.xcf_encode.proofs.encode_stream.Statement.{statement}
 use Rattle.xcf_encode.proofs.encode_stream.Tie as tie
@@ -16,7 +16,7 @@ same-length c = search needs
 
 returns-2 : tie.Need-returns-2
 returns-2 c =
-    stream-fitted (c .before .before .before .before .if1 .left) (rw one-encoding at (c .before .before .encode-streams .ensures))
+    stream-encoded (c .before .before .before .before .if1 .left) (rw one-encoding at (c .before .before .encode-streams .ensures))
 
 pub encode-stream-spec : {M : Type 1} → statement M
 encode-stream-spec = tie.close (tie.spec returns encode-streams-requires same-length returns-2)

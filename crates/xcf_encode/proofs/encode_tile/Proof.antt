@@ -1,10 +1,10 @@
--- Each return is one refusal, or the law of a fitted encoding: the laws of `Answers`.
+-- Each return is one refusal, or the law of an encoding put into the output: the laws of `Answers`.
 use mathlib.Core.Path.{_≡_, sym, _∙_}
 use mathlib.Core.Bool.{true}
 use Prim.Native.Nat.{_*_, _≤_}
 use native.Mathlib.Omega.{arith}
 use borrow.Author.Needs.{needs}
-use Rattle.xcf_encode.proofs.Answers.{unusable, other-length, tile-fitted}
+use Rattle.xcf_encode.proofs.Answers.{unusable, other-length, tile-encoded}
 use Rattle.xcf_tile.proofs.Sizes.{usable-bounds}
 use Rattle.xcf_laws.proofs.Products.{small}
 use Rattle.xcf_encode.proofs.encode_tile.Statement.{statement}
@@ -38,7 +38,8 @@ same-length c = search needs
 
 returns : tie.Need-returns
 returns c =
-    tile-fitted (sym (c .before .before .before .before .before .before .usable-tile .ensures) ∙ c .before .before .before .before .before .if1 .taken) (c .before .before .before .before .if2 .taken) (c .before .before .encode-pixels .ensures)
+    let t = c .before .before .before .before in
+    tile-encoded (sym (t .before .before .usable-tile .ensures) ∙ t .before .if1 .taken) (t .if2 .taken) (c .before .before .encode-pixels .ensures)
 
 returns-2 : tie.Need-returns-2
 returns-2 c = other-length _ _ _ _ _ (sym (c .before .before .usable-tile .ensures) ∙ c .before .if1 .taken) (c .if2 .left)

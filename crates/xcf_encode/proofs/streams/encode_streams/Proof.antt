@@ -1,4 +1,4 @@
--- Each return is the law of a fitted encoding, by whether it fits.
+-- Each return is the law of an encoding put into the output, by whether it fits.
 use mathlib.Core.Path.{sym, _∙_}
 use borrow.Author.Needs.{needs}
 use borrow.Author.Tests.{leb-true, leb-false}
@@ -11,14 +11,15 @@ fits-requires c κs = search needs
 
 put-streams-requires : tie.Need-put-streams-requires
 put-streams-requires c κs =
-    (c .before .before .before .before .before .pre, leb-true _ _ (sym (c .before .before .fits2 .ensures) ∙ c .before .if1 .taken))
+    let t = c .before in (t .before .before .before .before .pre, leb-true _ _ (sym (t .before .fits2 .ensures) ∙ t .if1 .taken))
 
 same-length : tie.Need-same-length
 same-length c = search needs
 
 returns : tie.Need-returns
 returns c =
-    stored (leb-true _ _ (sym (c .before .before .before .before .before .fits2 .ensures) ∙ c .before .before .before .before .if1 .taken)) (c .before .before .put-streams .ensures)
+    let t = c .before .before .before .before in
+    stored (leb-true _ _ (sym (t .before .fits2 .ensures) ∙ t .if1 .taken)) (c .before .before .put-streams .ensures)
 
 returns-2 : tie.Need-returns-2
 returns-2 c = no-room _ _ (leb-false _ _ (sym (c .before .fits2 .ensures) ∙ c .if1 .left))

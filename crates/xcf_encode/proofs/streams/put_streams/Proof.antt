@@ -1,7 +1,9 @@
 -- The invariant is `StreamsLeft`; a turn is `streams-turn` at the bytes that were put.
+use Prim.Native.Nat.{_+_, _-_, _≤_}
 use native.Mathlib.Omega.{arith}
 use borrow.Author.Needs.{needs}
-use lib.ListN.{length-take, length-drop}
+use lib.ListN.{length, take, drop, length-take, length-drop}
+use Rattle.xcf_segment.specs.Segment.{encodeStream}
 use Rattle.xcf_encode.proofs.StreamsLoop.{stream-room, StreamsLeft, output-room, streams-turn, streams-whole}
 use Rattle.xcf_encode.proofs.streams.put_streams.Statement.{statement}
 use Rattle.xcf_encode.proofs.streams.put_streams.Tie as tie
@@ -11,6 +13,20 @@ Inv-loop planar n depth output₀ rest₀ at₀ to₀ output rest at to = Stream
 
 abbrev μ-loop : tie.MeasureT-loop
 μ-loop planar n depth output₀ rest₀ at₀ to₀ output rest at to = rest
+
+-- from the end of a turn to the turn, and from there to the start
+abbrev turn : tie.After-slice-known2 Inv-loop μ-loop → tie.In-loop Inv-loop μ-loop
+turn c = c .before .before .before .before .before
+
+abbrev start : tie.In-loop Inv-loop μ-loop → tie.Start Inv-loop μ-loop
+start c = c .before .before .before .before
+
+-- there is room for this stream's encoding
+room : (c : tie.In-loop Inv-loop μ-loop)
+    → let a = start c .args in
+    let l = c .before .loop in
+    l .to + length (encodeStream (take (l .at + a .n - l .at) (drop (l .at) (a .planar .now)))) ≤ length (l .output)
+room c = output-room (c .before .loop .inv) (start c .pre .0) (c .loop-test .taken) (start c .pre .1)
 
 loop-holds : tie.Need-loop-holds Inv-loop μ-loop
 loop-holds c = search needs
@@ -25,7 +41,7 @@ part-put-stream-start : tie.Need-part-put-stream-start Inv-loop μ-loop
 part-put-stream-start c = search needs
 
 part-put-stream-end : tie.Need-part-put-stream-end Inv-loop μ-loop
-part-put-stream-end c = stream-room (c .before .loop .inv .sizes) (c .before .before .before .before .pre .0) (c .loop-test .taken)
+part-put-stream-end c = stream-room (c .before .loop .inv .sizes) (start c .pre .0) (c .loop-test .taken)
 
 sub-put-stream-2 : tie.Need-sub-put-stream-2 Inv-loop μ-loop
 sub-put-stream-2 c = search needs
@@ -38,12 +54,11 @@ part-put-stream-end-2 c = search needs
 
 put-stream-requires : tie.Need-put-stream-requires Inv-loop μ-loop
 put-stream-requires c κs =
-    let room = output-room (c .before .before .before .loop .inv) (c .before .before .before .before .before .before .pre .0) (c .before .before .loop-test .taken) (c .before .before .before .before .before .before .pre .1) in
-    (simp length-take (omega (arith, c .before .before .before .before .before .before .pre .0 .short)), simp (length-take, length-drop) (omega (arith, room)))
+    let t = c .before .before in
+    (simp length-take (omega (arith, start t .pre .0 .short)), simp (length-take, length-drop) (omega (arith, room t)))
 
 add-to : tie.Need-add-to Inv-loop μ-loop
-add-to c =
-    omega (arith, output-room (c .before .before .before .before .before .before .loop .inv) (c .before .before .before .before .before .before .before .before .before .pre .0) (c .before .before .before .before .before .loop-test .taken) (c .before .before .before .before .before .before .before .before .before .pre .1), c .before .before .put-stream .ensures .behind)
+add-to c = omega (arith, room (turn c), c .before .before .put-stream .ensures .behind)
 
 sub-rest : tie.Need-sub-rest Inv-loop μ-loop
 sub-rest c = search needs
@@ -53,7 +68,7 @@ loop-less c = search needs
 
 loop-again : tie.Need-loop-again Inv-loop μ-loop
 loop-again c =
-    streams-turn (c .before .before .before .before .before .before .loop .inv) (c .before .before .before .before .before .before .before .before .before .pre .0) (c .before .before .before .before .before .loop-test .taken) (c .before .before .before .before .before .before .before .before .before .pre .1) (c .before .before .put-stream .ensures)
+    let t = turn c in streams-turn (t .before .loop .inv) (start t .pre .0) (t .loop-test .taken) (start t .pre .1) (c .before .before .put-stream .ensures)
 
 same-length : tie.Need-same-length Inv-loop μ-loop
 same-length c = search needs

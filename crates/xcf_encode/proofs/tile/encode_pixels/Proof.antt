@@ -16,9 +16,11 @@ same-length c = search needs
 
 returns : tie.Need-returns
 returns c =
-    let a = c .before .before .before .before .before .before .before .args in
-    let one : a .depth ≡ 1 = c .before .before .before .before .if1 .taken in
-    let exact : length (a .pixels .now) ≡ a .n = rw (one, mul-one) at (c .before .before .before .before .before .before .before .pre .0) in
+    let t = c .before .before .before .before in
+    let s = t .before .before .before in
+    let a = s .args in
+    let one : a .depth ≡ 1 = t .if1 .taken in
+    let exact : length (a .pixels .now) ≡ a .n = rw (one, mul-one) at (s .pre .0) in
     rw (tile-encoding (a .n) (a .depth) (a .pixels .now) (a .pixels .now) (rw one (one-plane (a .n) (a .pixels .now) exact))) at (c .before .before .encode-streams .ensures)
 
 encode-gathered-requires : tie.Need-encode-gathered-requires

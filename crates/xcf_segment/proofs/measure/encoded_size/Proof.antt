@@ -3,8 +3,6 @@ use Prim.Native.Nat.{_+_, _-_}
 use native.Mathlib.Omega.{arith}
 use borrow.Author.Needs.{needs}
 use lib.ListN.{length}
-use Rattle.xcf_segment.specs.Parts.{SegmentAt}
-use Rattle.xcf_segment.specs.declared.segment.SegmentRead.the-variants.{Run, Copy}
 use Rattle.xcf_segment.proofs.Bound.{bound}
 use Rattle.xcf_segment.proofs.SegmentsLoop.{SizeLeft, size-turn, size-whole}
 use Rattle.xcf_segment.proofs.measure.encoded_size.Statement.{statement}
@@ -16,20 +14,20 @@ Inv-loop stream at₀ size₀ at size = SizeLeft stream at size
 abbrev μ-loop : tie.MeasureT-loop
 μ-loop stream at₀ size₀ at size = length stream - at
 
--- what was read is a run, or a copy
-run-read : (c : tie.After-head-size Inv-loop μ-loop) → SegmentAt (c .before .before .before .before .before .before .before .before .args .stream .now) (c .before .before .before .before .before .before .loop .at) (Run (c .before .before .count .given .0 .0))
-run-read c = rw (c .before .before .count .given .1) at (c .before .before .before .before .segment-at .ensures)
+-- from the place behind a segment read to the loop's head, and to the start
+abbrev head : tie.After-segment-at Inv-loop μ-loop → tie.At-loop Inv-loop μ-loop
+head c = c .before .before
 
-run-turn : (c : tie.After-head-size Inv-loop μ-loop) → let l = c .before .before .before .before .before .before .loop in SizeLeft (c .before .before .before .before .before .before .before .before .args .stream .now) (l .at + c .before .before .count .given .0 .0) (l .size + (c .head-size .result + 1))
-run-turn c =
-    rw (c .head-size .ensures) (size-turn (c .before .before .before .before .before .before .loop .inv) (run-read c))
+abbrev start : tie.After-segment-at Inv-loop μ-loop → tie.Start Inv-loop μ-loop
+start c = head c .before .before
 
-copy-read : (c : tie.After-head-size2 Inv-loop μ-loop) → SegmentAt (c .before .before .before .before .before .before .before .before .args .stream .now) (c .before .before .before .before .before .before .loop .at) (Copy (c .before .before .count2 .given .0 .0))
-copy-read c = rw (c .before .before .count2 .given .1) at (c .before .before .before .before .segment-at .ensures)
-
-copy-turn : (c : tie.After-head-size2 Inv-loop μ-loop) → let l = c .before .before .before .before .before .before .loop in SizeLeft (c .before .before .before .before .before .before .before .before .args .stream .now) (l .at + c .before .before .count2 .given .0 .0) (l .size + (c .head-size2 .result + c .before .before .count2 .given .0 .0))
-copy-turn c =
-    rw (c .head-size2 .ensures) (size-turn (c .before .before .before .before .before .before .loop .inv) (copy-read c))
+-- one turn
+turned : (c : tie.After-segment-size Inv-loop μ-loop)
+    → let r = c .before .segment-at .result in
+    SizeLeft (start (c .before) .args .stream .now) (head (c .before) .loop .at + r .count) (head (c .before) .loop .size + c .segment-size .result)
+turned c =
+    let s = c .before .segment-at .ensures in
+    size-turn (head (c .before) .loop .inv) s _ (c .segment-size .ensures (start (c .before) .args .stream .now) (head (c .before) .loop .at) (s .inside))
 
 loop-holds : tie.Need-loop-holds Inv-loop μ-loop
 loop-holds c = search needs
@@ -37,47 +35,20 @@ loop-holds c = search needs
 segment-at-requires : tie.Need-segment-at-requires Inv-loop μ-loop
 segment-at-requires c κs = search needs
 
-enum-known-count : tie.Need-enum-known-count Inv-loop μ-loop
-enum-known-count c = search needs
-
-head-size-requires : tie.Need-head-size-requires Inv-loop μ-loop
-head-size-requires c κs = search needs
+segment-size-requires : tie.Need-segment-size-requires Inv-loop μ-loop
+segment-size-requires c κs = search needs
 
 add-size : tie.Need-add-size Inv-loop μ-loop
-add-size c = omega (arith, run-turn c, bound (c .before .before .before .before .before .before .before .before .args .stream .now))
-
-add-size-2 : tie.Need-add-size-2 Inv-loop μ-loop
-add-size-2 c = omega (arith, run-turn c, bound (c .before .before .before .before .before .before .before .before .args .stream .now))
+add-size c = omega (arith, turned c, bound (start (c .before) .args .stream .now))
 
 add-at : tie.Need-add-at Inv-loop μ-loop
-add-at c = omega (arith, run-turn c)
+add-at c = search needs
 
 loop-less : tie.Need-loop-less Inv-loop μ-loop
-loop-less c = omega (arith, run-read c)
+loop-less c = search needs
 
 loop-again : tie.Need-loop-again Inv-loop μ-loop
-loop-again c = run-turn c
-
-enum-known-count-2 : tie.Need-enum-known-count-2 Inv-loop μ-loop
-enum-known-count-2 c = search needs
-
-head-size-requires-2 : tie.Need-head-size-requires-2 Inv-loop μ-loop
-head-size-requires-2 c κs = search needs
-
-add-size-3 : tie.Need-add-size-3 Inv-loop μ-loop
-add-size-3 c = omega (arith, copy-turn c, bound (c .before .before .before .before .before .before .before .before .args .stream .now))
-
-add-size-4 : tie.Need-add-size-4 Inv-loop μ-loop
-add-size-4 c = omega (arith, copy-turn c, bound (c .before .before .before .before .before .before .before .before .args .stream .now))
-
-add-at-2 : tie.Need-add-at-2 Inv-loop μ-loop
-add-at-2 c = omega (arith, copy-turn c)
-
-loop-less-2 : tie.Need-loop-less-2 Inv-loop μ-loop
-loop-less-2 c = omega (arith, copy-read c)
-
-loop-again-2 : tie.Need-loop-again-2 Inv-loop μ-loop
-loop-again-2 c = copy-turn c
+loop-again c = turned (c .before)
 
 returns : tie.Need-returns Inv-loop μ-loop
 returns c = size-whole (c .before .loop .inv) (c .loop-test .left)
@@ -90,18 +61,9 @@ encoded-size-spec =
     μ-loop
     loop-holds
     segment-at-requires
-    enum-known-count
-    head-size-requires
+    segment-size-requires
     add-size
-    add-size-2
     add-at
     loop-less
     loop-again
-    enum-known-count-2
-    head-size-requires-2
-    add-size-3
-    add-size-4
-    add-at-2
-    loop-less-2
-    loop-again-2
     returns)

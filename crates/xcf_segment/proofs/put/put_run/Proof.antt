@@ -2,10 +2,17 @@
 use native.Mathlib.Omega.{arith}
 use borrow.Author.Needs.{needs}
 use lib.ListN.{length-set}
-use Rattle.xcf_segment.proofs.Written.{run-short, run-long}
+use Rattle.xcf_segment.proofs.SegmentBytes.{run-short, run-long}
 use Rattle.xcf_store.proofs.Stores.{put-one, put-two, put-append, put-length}
 use Rattle.xcf_segment.proofs.put.put_run.Statement.{statement}
 use Rattle.xcf_segment.proofs.put.put_run.Tie as tie
+
+-- from the place where the value is stored behind a long head back to the test, and to the start
+abbrev test : tie.After-slice-known2 → tie.Else1
+test c = c .before .before .before .before
+
+abbrev start : tie.After-slice-known2 → tie.Start
+start c = test c .before .before
 
 sub-output : tie.Need-sub-output
 sub-output c = search needs
@@ -38,7 +45,7 @@ put-long-head-requires c κs =
 
 slice-write-output-3 : tie.Need-slice-write-output-3
 slice-write-output-3 c =
-    omega (arith, put-length (c .before .before .put-long-head .ensures), rw (run-long _ _ (c .before .before .before .before .if1 .left)) at (c .before .before .before .before .before .before .pre .1 .1))
+    omega (arith, put-length (c .before .before .put-long-head .ensures), rw (run-long _ _ (test c .if1 .left)) at (start c .pre .1 .1))
 
 add-result-2 : tie.Need-add-result-2
 add-result-2 c = search needs
@@ -48,7 +55,7 @@ same-length-2 c = search needs
 
 returns-2 : tie.Need-returns-2
 returns-2 c =
-    rw (run-long _ _ (c .before .before .before .before .if1 .left)) (put-append (c .before .before .put-long-head .ensures) (put-one _ _ _))
+    rw (run-long _ _ (test c .if1 .left)) (put-append (c .before .before .put-long-head .ensures) (put-one _ _ _))
 
 pub put-run-spec : {M : Type 1} → statement M
 put-run-spec =

@@ -1,10 +1,7 @@
 -- The invariant is `StoreLeft`; a turn is `store-turn` at the segment that was read and the bytes that were put.
 use Prim.Native.Nat.{_-_}
-use native.Mathlib.Omega.{arith}
 use borrow.Author.Needs.{needs}
 use lib.ListN.{length}
-use Rattle.xcf_segment.specs.Parts.{SegmentAt}
-use Rattle.xcf_segment.specs.declared.segment.SegmentRead.the-variants.{Run, Copy}
 use Rattle.xcf_segment.proofs.SegmentsLoop.{StoreLeft, store-turn, store-room, store-whole}
 use Rattle.xcf_segment.proofs.put.put_stream.Statement.{statement}
 use Rattle.xcf_segment.proofs.put.put_stream.Tie as tie
@@ -15,12 +12,15 @@ Inv-loop stream output₀ at₀ to₀ output at to = StoreLeft stream output₀ 
 abbrev μ-loop : tie.MeasureT-loop
 μ-loop stream output₀ at₀ to₀ output at to = length stream - at
 
--- what was read is a run, or a copy
-run-read : (c : tie.After-count Inv-loop μ-loop) → SegmentAt (c .before .before .before .before .before .before .before .args .stream .now) (c .before .before .before .before .loop .at) (Run (c .count .given .0 .0))
-run-read c = rw (c .count .given .1) at (c .before .before .segment-at .ensures)
+-- from the place behind a segment read to the loop's head, and to the start; from the end of a turn to the segment read
+abbrev head : tie.After-segment-at Inv-loop μ-loop → tie.At-loop Inv-loop μ-loop
+head c = c .before .before
 
-copy-read : (c : tie.After-count2 Inv-loop μ-loop) → SegmentAt (c .before .before .before .before .before .before .before .args .stream .now) (c .before .before .before .before .loop .at) (Copy (c .count2 .given .0 .0))
-copy-read c = rw (c .count2 .given .1) at (c .before .before .segment-at .ensures)
+abbrev start : tie.After-segment-at Inv-loop μ-loop → tie.Start Inv-loop μ-loop
+start c = head c .before .before .before
+
+abbrev read : tie.After-struct-known Inv-loop μ-loop → tie.After-segment-at Inv-loop μ-loop
+read c = c .before .before .before .before .before
 
 loop-holds : tie.Need-loop-holds Inv-loop μ-loop
 loop-holds c = search needs
@@ -28,42 +28,20 @@ loop-holds c = search needs
 segment-at-requires : tie.Need-segment-at-requires Inv-loop μ-loop
 segment-at-requires c κs = search needs
 
-enum-known-count : tie.Need-enum-known-count Inv-loop μ-loop
-enum-known-count c = search needs
-
-shared-slice-read-put-run : tie.Need-shared-slice-read-put-run Inv-loop μ-loop
-shared-slice-read-put-run c = search needs
-
-put-run-requires : tie.Need-put-run-requires Inv-loop μ-loop
-put-run-requires c κs =
-    let s = run-read (c .before .before .before) in
-    (s .some, (omega (arith, s .inside, c .before .before .before .before .before .before .before .before .before .before .pre .0), store-room (c .before .before .before .before .before .before .before .loop .inv) s (c .before .before .before .before .before .before .before .before .before .before .pre .1)))
+put-segment-requires : tie.Need-put-segment-requires Inv-loop μ-loop
+put-segment-requires c κs =
+    let p = start (c .before) .pre in
+    let s = c .before .segment-at .ensures in ((p .0, s), store-room (head (c .before) .loop .inv) s (p .1))
 
 add-at : tie.Need-add-at Inv-loop μ-loop
-add-at c = omega (arith, run-read (c .before .before .before .before .before .before))
+add-at c = search needs
 
 loop-less : tie.Need-loop-less Inv-loop μ-loop
-loop-less c = omega (arith, run-read (c .before .before .before .before .before .before))
+loop-less c = search needs
 
 loop-again : tie.Need-loop-again Inv-loop μ-loop
-loop-again c = store-turn (c .before .before .before .before .before .before .before .before .before .before .loop .inv) (run-read (c .before .before .before .before .before .before)) (c .before .before .put-run .ensures)
-
-enum-known-count-2 : tie.Need-enum-known-count-2 Inv-loop μ-loop
-enum-known-count-2 c = search needs
-
-put-copy-requires : tie.Need-put-copy-requires Inv-loop μ-loop
-put-copy-requires c κs =
-    let s = copy-read (c .before .before) in
-    (s .some, (omega (arith, s .inside, c .before .before .before .before .before .before .before .before .before .pre .0), (s .inside, store-room (c .before .before .before .before .before .before .loop .inv) s (c .before .before .before .before .before .before .before .before .before .pre .1))))
-
-add-at-2 : tie.Need-add-at-2 Inv-loop μ-loop
-add-at-2 c = omega (arith, copy-read (c .before .before .before .before .before))
-
-loop-less-2 : tie.Need-loop-less-2 Inv-loop μ-loop
-loop-less-2 c = omega (arith, copy-read (c .before .before .before .before .before))
-
-loop-again-2 : tie.Need-loop-again-2 Inv-loop μ-loop
-loop-again-2 c = store-turn (c .before .before .before .before .before .before .before .before .before .loop .inv) (copy-read (c .before .before .before .before .before)) (c .before .before .put-copy .ensures)
+loop-again c =
+    store-turn (head (read c) .loop .inv) (read c .segment-at .ensures) (c .before .before .before .put-segment .ensures)
 
 same-length : tie.Need-same-length Inv-loop μ-loop
 same-length c = c .before .loop .inv .same
@@ -79,16 +57,9 @@ put-stream-spec =
     μ-loop
     loop-holds
     segment-at-requires
-    enum-known-count
-    shared-slice-read-put-run
-    put-run-requires
+    put-segment-requires
     add-at
     loop-less
     loop-again
-    enum-known-count-2
-    put-copy-requires
-    add-at-2
-    loop-less-2
-    loop-again-2
     same-length
     returns)

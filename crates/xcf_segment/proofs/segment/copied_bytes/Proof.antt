@@ -15,6 +15,16 @@ Inv-loop stream at i₀ i =
 abbrev μ-loop : tie.MeasureT-loop
 μ-loop stream at i₀ i = length stream - i
 
+-- from the test of the second and third byte, and from that of the first two, back to the turn; from a turn to the start
+abbrev turn : tie.After-shared-slice-known2 Inv-loop μ-loop → tie.In-loop Inv-loop μ-loop
+turn c = c .before .before
+
+abbrev turn-2 : tie.After-shared-slice-known4 Inv-loop μ-loop → tie.In-loop Inv-loop μ-loop
+turn-2 c = turn (c .before .before .before)
+
+abbrev start : tie.In-loop Inv-loop μ-loop → tie.Start Inv-loop μ-loop
+start c = c .before .before
+
 loop-holds : tie.Need-loop-holds Inv-loop μ-loop
 loop-holds c = omega arith
 
@@ -40,7 +50,9 @@ loop-less : tie.Need-loop-less Inv-loop μ-loop
 loop-less c = omega arith
 
 loop-again : tie.Need-loop-again Inv-loop μ-loop
-loop-again c = omega (arith, copied-two (c .before .before .before .before .before .args .stream .now) (c .before .before .before .before .loop .i) (c .before .before .before .loop-test .taken) (c .if1 .taken))
+loop-again c =
+    let t = turn (c .before) in
+    omega (arith, copied-two (start t .args .stream .now) (t .before .loop .i) (t .loop-test .taken) (c .if1 .taken))
 
 shared-slice-read-if2 : tie.Need-shared-slice-read-if2 Inv-loop μ-loop
 shared-slice-read-if2 c = omega arith
@@ -55,7 +67,9 @@ sub-result : tie.Need-sub-result Inv-loop μ-loop
 sub-result c = omega arith
 
 returns : tie.Need-returns Inv-loop μ-loop
-returns c = omega (arith, copied-none (c .before .before .before .before .before .before .before .before .args .stream .now) (c .before .before .before .before .before .before .before .loop .i) (c .before .before .before .before .before .before .loop-test .taken) (c .before .before .before .if1 .left) (c .if2 .taken))
+returns c =
+    let t = turn-2 (c .before) in
+    omega (arith, copied-none (start t .args .stream .now) (t .before .loop .i) (t .loop-test .taken) (c .before .before .before .if1 .left) (c .if2 .taken))
 
 add-i-2 : tie.Need-add-i-2 Inv-loop μ-loop
 add-i-2 c = omega arith
@@ -64,7 +78,9 @@ loop-less-2 : tie.Need-loop-less-2 Inv-loop μ-loop
 loop-less-2 c = omega arith
 
 loop-again-2 : tie.Need-loop-again-2 Inv-loop μ-loop
-loop-again-2 c = omega (arith, copied-one (c .before .before .before .before .before .before .before .before .args .stream .now) (c .before .before .before .before .before .before .before .loop .i) (c .before .before .before .before .before .before .loop-test .taken) (c .if2 .left))
+loop-again-2 c =
+    let t = turn-2 (c .before) in
+    omega (arith, copied-one (start t .args .stream .now) (t .before .loop .i) (t .loop-test .taken) (c .if2 .left))
 
 sub-result-2 : tie.Need-sub-result-2 Inv-loop μ-loop
 sub-result-2 c = omega arith

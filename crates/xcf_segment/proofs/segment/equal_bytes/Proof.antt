@@ -15,6 +15,10 @@ Inv-loop stream at value i₀ i =
 abbrev μ-loop : tie.MeasureT-loop
 μ-loop stream at value i₀ i = length stream - i
 
+-- from a turn to the start
+abbrev start : tie.In-loop Inv-loop μ-loop → tie.Start Inv-loop μ-loop
+start c = c .before .before .before
+
 shared-slice-read-value : tie.Need-shared-slice-read-value Inv-loop μ-loop
 shared-slice-read-value c = omega arith
 
@@ -32,8 +36,9 @@ sub-result c = omega arith
 
 returns : tie.Need-returns Inv-loop μ-loop
 returns c =
-    let a = c .before .before .before .before .before .args in
-    omega (arith, leading-other (a .stream .now) (c .before .before .before .loop .i) (c .before .before .loop-test .taken) (getD (a .stream .now) (a .at) 0) (c .if1 .taken))
+    let t = c .before .before in
+    let a = start t .args in
+    omega (arith, leading-other (a .stream .now) (t .before .loop .i) (t .loop-test .taken) (getD (a .stream .now) (a .at) 0) (c .if1 .taken))
 
 add-i-2 : tie.Need-add-i-2 Inv-loop μ-loop
 add-i-2 c = omega arith
@@ -43,8 +48,9 @@ loop-less c = omega arith
 
 loop-again : tie.Need-loop-again Inv-loop μ-loop
 loop-again c =
-    let a = c .before .before .before .before .before .args in
-    omega (arith, leading-same (a .stream .now) (c .before .before .before .loop .i) (c .before .before .loop-test .taken) (getD (a .stream .now) (a .at) 0) (c .if1 .left))
+    let t = c .before .before in
+    let a = start t .args in
+    omega (arith, leading-same (a .stream .now) (t .before .loop .i) (t .loop-test .taken) (getD (a .stream .now) (a .at) 0) (c .if1 .left))
 
 sub-result-2 : tie.Need-sub-result-2 Inv-loop μ-loop
 sub-result-2 c = omega arith

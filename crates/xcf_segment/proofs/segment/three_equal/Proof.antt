@@ -33,7 +33,8 @@ shared-slice-read-result c = search needs
 
 returns-3 : tie.Need-returns-3
 returns-3 c =
-    let a = c .before .before .before .before .before .args in third-says (a .stream .now) (a .at) (omega arith) (c .before .if2 .left)
+    let e = c .before in
+    let a = e .before .before .before .before .args in third-says (a .stream .now) (a .at) (omega arith) (e .if2 .left)
 
 pub three-equal-spec : {M : Type 1} → statement M
 three-equal-spec =
