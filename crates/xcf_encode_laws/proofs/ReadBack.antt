@@ -87,9 +87,9 @@ module _ (a z : List ℕ) where
       (λ _. long-copy count)
 
 -- the operation with the data d behind the head h
-module _ (a h d z : List ℕ) (left : ℕ) where
-  carried-out : (count : ℕ) (o : Operation) → count ≤ left → unlessFails (a ++ (h ++ (d ++ z))) left count (length a + length h) (length d) o ≡ o
-  carried-out count o room =
+module _ (a h d z : List ℕ) where
+  carried-out : (left count : ℕ) (o : Operation) → count ≤ left → unlessFails (a ++ (h ++ (d ++ z))) left count (length a + length h) (length d) o ≡ o
+  carried-out left count o room =
       simp (
         le-ltb left count room,
         length-append,
@@ -124,14 +124,14 @@ module _ (a z : List ℕ) (left : ℕ) where
         append-assoc,
         copy-head a (bytes ++ z) (length bytes) some,
         carried-out a h bytes z left (length bytes) _ room,
-        copied a h bytes z left,
+        copied a h bytes z,
         length-append,
         add-assoc,
       )
 
   segment-read : (s : Segment) → 0 < sizeOf s → sizeOf s ≤ left → streamAt (a ++ (written s ++ z)) (length a) left ≡ adds (bytesOf s) (streamAt (a ++ (written s ++ z)) (length a + length (written s)) (left - sizeOf s))
   unfolding streamFrom
-  segment-read s some room = rw (stream-op _ (length a) left (omega arith), operation-read s some room, bytes-size)
+  segment-read s some room = rw (stream-op _ (length a) left (omega arith) (operation-read s some room), bytes-size)
 
 -- the stream, read back in any window
 abbrev Back : List ℕ → Type 0

@@ -89,10 +89,11 @@ pub stream-done : (ws : List ℕ) (at : ℕ) → streamAt ws at 0 ≡ ends 0 at
 unfolding streamAt
 stream-done ws at = within-done (length ws - at) ws at
 
-pub stream-op : (ws : List ℕ) (at left : ℕ) → 0 < left → streamAt ws at left ≡ streamFrom (streamAt ws) at left (operationAt ws at left)
+pub stream-op : (ws : List ℕ) (at left : ℕ) {o : Operation} → 0 < left → operationAt ws at left ≡ o → streamAt ws at left ≡ streamFrom (streamAt ws) at left o
 unfolding streamAt
-stream-op ws at left h =
+stream-op ws at left h e =
     within-same (length ws - at) (suc (length ws - at)) ws at left (omega arith) (omega arith)
     ∙ within-op (length ws - at) ws at left h
     ∙ from-same (streamWithin (length ws - at) ws) (λ n l. streamWithin (length ws - n) ws n l) ws at left (operationAt ws at left) (sound ws at left)
     (λ n l k. within-same (length ws - at) (length ws - n) ws n l (omega arith) (omega arith))
+    ∙ ap (streamFrom (streamAt ws) at left) e

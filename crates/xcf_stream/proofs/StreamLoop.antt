@@ -27,9 +27,6 @@ pub record Going (ws : List ℕ) (from n depth k : ℕ) (start pixels : List ℕ
   pub operations : count + streamAt ws pos left .operations ≡ streamAt ws from n .operations
   pub put : scatter pixels to depth (streamAt ws pos left .bytes) ≡ scatter start k depth (streamAt ws from n .bytes)
 
-begins : (ws : List ℕ) (at left : ℕ) {o : Operation} → 0 < left → operationAt ws at left ≡ o → streamAt ws at left ≡ streamFrom (streamAt ws) at left o
-begins ws at left h e = stream-op ws at left h ∙ ap (streamFrom (streamAt ws) at left) e
-
 sound-found : (ws : List ℕ) (at left : ℕ) {o : Operation} → operationAt ws at left ≡ o → Sound ws at left o
 sound-found ws at left e = subst (Sound ws at left) e (sound ws at left)
 
@@ -37,7 +34,7 @@ module _ {ws : List ℕ} {from n depth k : ℕ} {start pixels : List ℕ} {pos l
   going-more : (bs : List ℕ) (next : ℕ) → 0 < left → operationAt ws pos left ≡ gives bs next → Going ws from n depth k start (scatter pixels to depth bs) next (left - length bs) (to + depth * length bs) (count + 1)
   unfolding streamFrom
   going-more bs next h o =
-      let e = begins ws pos left h o in
+      let e = stream-op ws pos left h o in
       let s = sound-found ws pos left o in
       record {
         same = scatter-length pixels to depth bs ∙ g .same;
@@ -72,10 +69,10 @@ given-length ws false from count h = simp (length-take, length-drop) (omega arit
 
 -- an operation that gives bytes, in its window and its stream
 pub record Fits (ws : List ℕ) (at left : ℕ) (run : Bool) (from count next : ℕ) : Type 0 where
-  pub inside : from + dataSize run count ≤ length ws
+  pub present : from + dataSize run count ≤ length ws
   pub taken : count ≤ left
   pub after : at < next
-  pub ends : next ≤ length ws
+  pub inside : next ≤ length ws
 
 -- of what `operation_at` found
 module _ (ws : List ℕ) (at left : ℕ) {r : OperationRead} (e : (operationRead ws r ≡ operationAt ws at left) × DataInside ws r) where
@@ -86,20 +83,20 @@ module _ (ws : List ℕ) (at left : ℕ) {r : OperationRead} (e : (operationRead
   fits {run} {from} {count} {next} f =
       let d = subst (DataInside ws) f (e .1) in
       let s = sound-found ws at left (found f) in
-      record { inside = d; taken = omega (arith, s .0, given-length ws run from count d); after = s .1 .0; ends = s .1 .1 }
+      record { present = d; taken = omega (arith, s .0, given-length ws run from count d); after = s .1 .0; inside = s .1 .1 }
 
 module _ {ws : List ℕ} {from n depth k : ℕ} {start pixels : List ℕ} {pos left to count : ℕ} (g : Going ws from n depth k start pixels pos left to count) (h : 0 < left) {r : OperationRead} (e : (operationRead ws r ≡ operationAt ws pos left) × DataInside ws r) where
   pub going-given : {run : Bool} {at size next : ℕ} → r ≡ Given run at size next → Going ws from n depth k start (scatter pixels to depth (given ws run at size)) next (left - size) (to + depth * size) (count + 1)
   going-given {run} {at} {size} {next} f =
       let bs = given ws run at size in
       subst (λ (m : ℕ). Going ws from n depth k start (scatter pixels to depth bs) next (left - m) (to + depth * m) (count + 1))
-      (given-length ws run at size (fits ws pos left e f .inside))
+      (given-length ws run at size (fits ws pos left e f .present))
       (going-more g bs next h (found ws pos left e f))
 
   pub going-short : r ≡ Short → Streamed ws from n depth k start (record { mark = 20; at = pos; operations = count }) pixels
   unfolding streamFrom
-  going-short f = going-stop g 20 (begins ws pos left h (found ws pos left e f))
+  going-short f = going-stop g 20 (stream-op ws pos left h (found ws pos left e f))
 
   pub going-over : r ≡ Over → Streamed ws from n depth k start (record { mark = 21; at = pos; operations = count }) pixels
   unfolding streamFrom
-  going-over f = going-stop g 21 (begins ws pos left h (found ws pos left e f))
+  going-over f = going-stop g 21 (stream-op ws pos left h (found ws pos left e f))

@@ -122,16 +122,13 @@ module _ (ws vs : List ℕ) (m : ℕ) (same : take m ws ≡ take m vs) (long : m
   abbrev StreamSame : ℕ → ℕ → Stream → Type 0
   StreamSame at left s = s .mark ≡ 0 → s .at ≤ m → streamAt vs at left ≡ s
 
-  begun : (at left : ℕ) {o : Operation} → 0 < left → operationAt ws at left ≡ o → Before m o → streamAt vs at left ≡ streamFrom (streamAt vs) at left o
-  begun at left h e b =
-      stream-op vs at left h ∙ ap (streamFrom (streamAt vs) at left) (operation-same at left (subst (Before m) (sym e) b) ∙ e)
-
   from-same : (fuel at left : ℕ) (o : Operation) → 0 < left → operationAt ws at left ≡ o → ((n l : ℕ) → StreamSame n l (streamWithin fuel ws n l)) → StreamSame at left (streamFrom (streamWithin fuel ws) at left o)
   unfolding streamFrom
   from-same fuel at left short h e r = λ z. absurd (omega arith)
   from-same fuel at left over h e r = λ z. absurd (omega arith)
   from-same fuel at left (gives bs next) h e r = λ z b.
-      begun at left h e (omega (arith, within-ends fuel ws next (left - length bs) .0))
+      let i : next ≤ m = omega (arith, within-ends fuel ws next (left - length bs) .0) in
+      stream-op vs at left h (operation-same at left (subst (Before m) (sym e) i) ∙ e)
       ∙ ap (adds bs) (r next (left - length bs) z b)
 
   within-same : (fuel at left : ℕ) → StreamSame at left (streamWithin fuel ws at left)
