@@ -14,6 +14,7 @@ use lib.ListN.{length, getD, take, drop, replicate, length-take}
 use lib.Seq.{getD-take, take-take, take-nil}
 use lib.Dec.{ltb, leb, eqb}
 use Rattle.xcf_operation.specs.Operation.{Head, runHead, copyHead, cut, headAt, headOf, Operation, gives, short, over, unlessFails, operationAt, operationOf}
+use Rattle.xcf_operation.specs.Parts.{headFor}
 use Rattle.xcf_stream.specs.Stream.{Stream, adds, streamFrom, streamWithin, streamAt}
 use Rattle.xcf_stream.specs.Streams.{Streams, streamsAt}
 use Rattle.xcf_tile.specs.Tile.{Tile, plainTile, encodedTile, tileIn, windowLimit, tileOf}
@@ -25,6 +26,10 @@ abbrev HeadBefore : ℕ → Head → Type 0
 HeadBefore m cut = ⊥
 HeadBefore m (runHead count body) = body ≤ m
 HeadBefore m (copyHead count body) = body ≤ m
+
+body-before : (m : ℕ) (run : Bool) (count body : ℕ) → HeadBefore m (headFor run count body) → body ≤ m
+body-before m true count body h = h
+body-before m false count body h = h
 
 -- an operation that ends before m
 abbrev Before : ℕ → Operation → Type 0
@@ -91,9 +96,9 @@ module _ (ws vs : List ℕ) (m : ℕ) (same : take m ws ≡ take m vs) (long : m
       (λ e. by-cases (HeadSame at) (ltb 128 (getD ws at 0)) _ _
       (λ f b. simp (lt-leb (length vs) at (omega arith), byte-same at (omega arith), e, f))
       (λ f. by-cases (HeadSame at) (ltb (length ws) (at + 3)) _ _ (λ _. absurd)
-      (λ _. by-cases (HeadSame at) (eqb (getD ws at 0) 127) _ _
-      (λ g b. simp (lt-leb (length vs) at (omega arith), byte-same at (omega arith), e, f, le-ltb (length vs) (at + 3) (omega arith), g, byte-same (at + 1) (omega arith), byte-same (at + 1 + 1) (omega arith)))
-      (λ g b. simp (lt-leb (length vs) at (omega arith), byte-same at (omega arith), e, f, le-ltb (length vs) (at + 3) (omega arith), g, byte-same (at + 1) (omega arith), byte-same (at + 1 + 1) (omega arith)))))))
+      (λ _ b.
+      let i : at + 3 ≤ m = body-before m (eqb (getD ws at 0) 127) _ _ b in
+      simp (lt-leb (length vs) at (omega arith), byte-same at (omega arith), e, f, le-ltb (length vs) (at + 3) (omega arith), byte-same (at + 1) (omega arith), byte-same (at + 1 + 1) (omega arith))))))
 
   abbrev UnlessSame : ℕ → ℕ → ℕ → ℕ → List ℕ → Operation → Type 0
   UnlessSame left count body size bs o =
