@@ -2,7 +2,7 @@
 -- with the operation that stands there (`stream-op`). `sound` bounds an operation's numbers, so that any fuel that reaches
 -- the window's end gives the same stream.
 -- Assumes nothing.
-use mathlib.Core.Path.{_≡_, refl, ap, _∙_}
+use mathlib.Core.Path.{_≡_, refl, ap, subst, _∙_}
 use mathlib.Core.List.{List}
 use mathlib.Core.Bool.{cond}
 use Prim.Native.Nat.{ℕ, zero, suc, _+_, _-_, _≤_, _<_}
@@ -49,9 +49,9 @@ sound-of ws at left (runHead count body) a =
 sound-of ws at left (copyHead count body) a =
     unless-sound ws at left count body count _ (omega arith) (omega (arith, length-take count (drop body ws)))
 
-pub sound : (ws : List ℕ) (at left : ℕ) → Sound ws at left (operationAt ws at left)
+pub sound : (ws : List ℕ) (at left : ℕ) {o : Operation} → operationAt ws at left ≡ o → Sound ws at left o
 unfolding operationAt
-sound ws at left = sound-of ws at left (headAt ws at) (head-after ws at)
+sound ws at left e = subst (Sound ws at left) e (sound-of ws at left (headAt ws at) (head-after ws at))
 
 -- past the window's end there is no operation
 past-end : (ws : List ℕ) (at left : ℕ) → length ws ≤ at → operationAt ws at left ≡ short
@@ -73,7 +73,7 @@ within-same zero (suc g) ws at left p q = rw (past-end ws at left (omega arith))
 within-same (suc f) zero ws at left p q = rw (past-end ws at left (omega arith))
 within-same (suc f) (suc g) ws at left p q =
     ap (λ (s : Stream). cond (ltb 0 left) s (ends 0 at))
-    (from-same (streamWithin f ws) (streamWithin g ws) ws at left (operationAt ws at left) (sound ws at left)
+    (from-same (streamWithin f ws) (streamWithin g ws) ws at left (operationAt ws at left) (sound ws at left refl)
     (λ n l h. within-same f g ws n l (omega arith) (omega arith)))
 
 within-done : (f : ℕ) (ws : List ℕ) (at : ℕ) → streamWithin f ws at 0 ≡ ends 0 at
@@ -94,6 +94,6 @@ unfolding streamAt
 stream-op ws at left h e =
     within-same (length ws - at) (suc (length ws - at)) ws at left (omega arith) (omega arith)
     ∙ within-op (length ws - at) ws at left h
-    ∙ from-same (streamWithin (length ws - at) ws) (λ n l. streamWithin (length ws - n) ws n l) ws at left (operationAt ws at left) (sound ws at left)
+    ∙ from-same (streamWithin (length ws - at) ws) (λ n l. streamWithin (length ws - n) ws n l) ws at left (operationAt ws at left) (sound ws at left refl)
     (λ n l k. within-same (length ws - at) (length ws - n) ws n l (omega arith) (omega arith))
     ∙ ap (streamFrom (streamAt ws) at left) e

@@ -8,13 +8,13 @@ use mathlib.Core.Bool.{Bool, true, false}
 use Prim.Native.Nat.{ℕ, _+_, _*_, _-_, _≤_, _<_}
 use native.Mathlib.Omega.{arith}
 use lib.ListN.{length, getD, length-replicate, length-take, length-drop}
-use Rattle.xcf_operation.specs.Operation.{Operation, gives, operationAt}
+use Rattle.xcf_operation.specs.Operation.{gives, operationAt}
 use Rattle.xcf_stream.specs.Stream.{Stream, ends, streamFrom, streamAt}
 use Rattle.xcf_operation.specs.declared.OperationRead.{OperationRead}
 use Rattle.xcf_operation.specs.declared.OperationRead.the-variants.{Given, Short, Over}
 use Rattle.xcf_stream.specs.Parts.{scatter, Streamed}
 use Rattle.xcf_operation.specs.Parts.{dataSize, given, operationRead, DataInside}
-use Rattle.xcf_stream.proofs.StreamLaws.{Sound, sound, stream-done, stream-op}
+use Rattle.xcf_stream.proofs.StreamLaws.{sound, stream-done, stream-op}
 use Rattle.xcf_stream.proofs.Scattering.{scatter-append, scatter-length, mul-part}
 
 pub record Going (ws : List ℕ) (from n depth k : ℕ) (start pixels : List ℕ) (pos left to count : ℕ) : Type 0 where
@@ -27,15 +27,12 @@ pub record Going (ws : List ℕ) (from n depth k : ℕ) (start pixels : List ℕ
   pub operations : count + streamAt ws pos left .operations ≡ streamAt ws from n .operations
   pub put : scatter pixels to depth (streamAt ws pos left .bytes) ≡ scatter start k depth (streamAt ws from n .bytes)
 
-sound-found : (ws : List ℕ) (at left : ℕ) {o : Operation} → operationAt ws at left ≡ o → Sound ws at left o
-sound-found ws at left e = subst (Sound ws at left) e (sound ws at left)
-
 module _ {ws : List ℕ} {from n depth k : ℕ} {start pixels : List ℕ} {pos left to count : ℕ} (g : Going ws from n depth k start pixels pos left to count) where
   going-more : (bs : List ℕ) (next : ℕ) → 0 < left → operationAt ws pos left ≡ gives bs next → Going ws from n depth k start (scatter pixels to depth bs) next (left - length bs) (to + depth * length bs) (count + 1)
   unfolding streamFrom
   going-more bs next h o =
       let e = stream-op ws pos left h o in
-      let s = sound-found ws pos left o in
+      let s = sound ws pos left o in
       record {
         same = scatter-length pixels to depth bs ∙ g .same;
         room = omega (arith, g .room, mul-part depth (length bs) left (s .0));
@@ -82,7 +79,7 @@ module _ (ws : List ℕ) (at left : ℕ) {r : OperationRead} (e : (operationRead
   pub fits : {run : Bool} {from count next : ℕ} → r ≡ Given run from count next → Fits ws at left run from count next
   fits {run} {from} {count} {next} f =
       let d = subst (DataInside ws) f (e .1) in
-      let s = sound-found ws at left (found f) in
+      let s = sound ws at left (found f) in
       record { present = d; taken = omega (arith, s .0, given-length ws run from count d); after = s .1 .0; inside = s .1 .1 }
 
 module _ {ws : List ℕ} {from n depth k : ℕ} {start pixels : List ℕ} {pos left to count : ℕ} (g : Going ws from n depth k start pixels pos left to count) (h : 0 < left) {r : OperationRead} (e : (operationRead ws r ≡ operationAt ws pos left) × DataInside ws r) where

@@ -28,7 +28,7 @@ within-whole : (fuel : ℕ) (ws : List ℕ) (at left : ℕ) → Whole left (stre
 unfolding streamWithin
 within-whole zero ws at left = by-cases (Whole left) (ltb 0 left) _ _ (λ _ z. absurd (omega arith)) (λ e z. omega (arith, ltb-false 0 left e))
 within-whole (suc fuel) ws at left =
-    by-cases (Whole left) (ltb 0 left) _ _ (λ _. from-whole (streamWithin fuel ws) ws at left (operationAt ws at left) (sound ws at left) (within-whole fuel ws))
+    by-cases (Whole left) (ltb 0 left) _ _ (λ _. from-whole (streamWithin fuel ws) ws at left (operationAt ws at left) (sound ws at left refl) (within-whole fuel ws))
     (λ e z. omega (arith, ltb-false 0 left e))
 
 pub stream-whole : (ws : List ℕ) (at left : ℕ) → streamAt ws at left .mark ≡ 0 → length (streamAt ws at left .bytes) ≡ left

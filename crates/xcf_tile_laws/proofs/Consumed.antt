@@ -51,7 +51,7 @@ within-ends : (fuel : ℕ) (ws : List ℕ) (at left : ℕ) → Ends ws at (strea
 unfolding streamWithin
 within-ends zero ws at left = by-cases (Ends ws at) (ltb 0 left) _ _ (λ _. (omega arith, λ i. i)) (λ _. (omega arith, λ i. i))
 within-ends (suc fuel) ws at left =
-    by-cases (Ends ws at) (ltb 0 left) _ _ (λ _. from-ends (streamWithin fuel ws) ws at left (operationAt ws at left) (sound ws at left) (within-ends fuel ws))
+    by-cases (Ends ws at) (ltb 0 left) _ _ (λ _. from-ends (streamWithin fuel ws) ws at left (operationAt ws at left) (sound ws at left refl) (within-ends fuel ws))
     (λ _. (omega arith, λ i. i))
 
 stream-ends : (ws : List ℕ) (at left : ℕ) → Ends ws at (streamAt ws at left)
