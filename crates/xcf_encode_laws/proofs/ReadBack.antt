@@ -9,11 +9,11 @@ use native.Mathlib.Nat.{add-zero, add-assoc, div-add-mod'}
 use native.Mathlib.Numerals.{one-add}
 use native.Mathlib.Omega.{arith}
 use borrow.Author.Tests.{leb-true, lt-leb, lt-ltb, le-ltb, eqb-true}
-use lib.ListN.{length, getD, take, drop, replicate, length-append, length-drop, take-append-drop}
+use lib.ListN.{length, getD, take, drop, replicate, length-append, length-replicate, length-drop, take-append-drop}
 use lib.Seq.{getD-append-seam, getD-append-add, drop-append-add, drop-append-seam, take-append-seam}
 use lib.Dec.{leb, ltb, eqb}
-use Rattle.xcf_operation.specs.Operation.{runHead, copyHead, pair, headAt, headOf, run, copy, operationAt, operationOf}
-use Rattle.xcf_stream.specs.Stream.{gives, streamFrom, streamAt}
+use Rattle.xcf_operation.specs.Operation.{runHead, copyHead, pair, headAt, headOf, Operation, gives, unlessFails, operationAt, operationOf}
+use Rattle.xcf_stream.specs.Stream.{adds, streamFrom, streamAt}
 use Rattle.xcf_stream.proofs.StreamLaws.{stream-done, stream-op}
 use Rattle.xcf_laws.proofs.Cases.{by-cases}
 use Rattle.xcf_segment.specs.Segment.{leading, equalBytes, Segment, runOf, copyOf, sizeOf, firstSegment, headBytes, segments, segmentBytes, encodeStream}
@@ -86,56 +86,52 @@ module _ (a z : List ℕ) where
       rw back at (short-copy (256 - count) (omega (arith, leb-true))))
       (λ _. long-copy count)
 
--- the operation behind the head h
-module _ (a h z : List ℕ) (left : ℕ) where
-  run-op : (count value : ℕ) → count ≤ left → headAt (a ++ (h ++ (value ∷ z))) (length a) ≡ runHead count (length a + length h) → operationAt (a ++ (h ++ (value ∷ z))) (length a) left ≡ run value count (length a + length h + 1)
-  unfolding operationAt operationOf
-  run-op count value room e =
+-- the operation with the data d behind the head h
+module _ (a h d z : List ℕ) where
+  carried-out : (left count : ℕ) (o : Operation) → count ≤ left → unlessFails (a ++ (h ++ (d ++ z))) left count (length a + length h) (length d) o ≡ o
+  carried-out left count o room =
       simp (
-        e,
         le-ltb left count room,
-        getD-append-add,
-        getD-append-seam,
         length-append,
-        le-ltb (length a + (length h + suc (length z))) (length a + length h + 1) (omega arith),
+        le-ltb (length a + (length h + (length d + length z))) (length a + length h + length d) (omega arith),
       )
 
-  copy-op : (bytes : List ℕ) → length bytes ≤ left → headAt (a ++ (h ++ (bytes ++ z))) (length a) ≡ copyHead (length bytes) (length a + length h) → operationAt (a ++ (h ++ (bytes ++ z))) (length a) left ≡ copy (length a + length h) (length bytes) (length a + length h + length bytes)
-  unfolding operationAt operationOf
-  copy-op bytes room e =
-      simp (
-        e,
-        le-ltb left (length bytes) room,
-        length-append,
-        le-ltb (length a + (length h + (length bytes + length z))) (length a + length h + length bytes) (omega arith),
-      )
+  copied : take (length d) (drop (length a + length h) (a ++ (h ++ (d ++ z)))) ≡ d
+  copied = simp (drop-append-add, drop-append-seam, take-append-seam)
 
-  copied : (bytes : List ℕ) → take (length bytes) (drop (length a + length h) (a ++ (h ++ (bytes ++ z)))) ≡ bytes
-  copied bytes = simp (drop-append-add, drop-append-seam, take-append-seam)
+bytes-size : (s : Segment) → length (bytesOf s) ≡ sizeOf s
+bytes-size (runOf count value) = length-replicate count value
+bytes-size (copyOf bytes) = refl
 
 -- a segment's operation gives its bytes
 module _ (a z : List ℕ) (left : ℕ) where
-  segment-read : (s : Segment) → 0 < sizeOf s → sizeOf s ≤ left → streamAt (a ++ (segmentBytes s ++ z)) (length a) left ≡ gives (bytesOf s) (streamAt (a ++ (segmentBytes s ++ z)) (length a + length (segmentBytes s)) (left - sizeOf s))
-  unfolding streamFrom segmentBytes
-  segment-read (runOf count value) some room =
+  operation-read : (s : Segment) → 0 < sizeOf s → sizeOf s ≤ left → operationAt (a ++ (segmentBytes s ++ z)) (length a) left ≡ gives (bytesOf s) (length a + length (segmentBytes s))
+  unfolding operationAt operationOf segmentBytes
+  operation-read (runOf count value) some room =
       let h : List ℕ = headBytes count (count - 1) 127 in
       rw (
         append-assoc,
-        stream-op _ (length a) left (omega arith),
-        run-op a h z left count value room (run-head a (value ∷ z) count some),
+        run-head a (value ∷ z) count some,
+        carried-out a h (value ∷ []) z left count _ room,
+        getD-append-add,
+        getD-append-seam,
         length-append,
         add-assoc,
       )
-  segment-read (copyOf bytes) some room =
+  operation-read (copyOf bytes) some room =
       let h : List ℕ = headBytes (length bytes) (256 - length bytes) 128 in
       rw (
         append-assoc,
-        stream-op _ (length a) left (omega arith),
-        copy-op a h z left bytes room (copy-head a (bytes ++ z) (length bytes) some),
-        copied a h z left bytes,
+        copy-head a (bytes ++ z) (length bytes) some,
+        carried-out a h bytes z left (length bytes) _ room,
+        copied a h bytes z,
         length-append,
         add-assoc,
       )
+
+  segment-read : (s : Segment) → 0 < sizeOf s → sizeOf s ≤ left → streamAt (a ++ (segmentBytes s ++ z)) (length a) left ≡ adds (bytesOf s) (streamAt (a ++ (segmentBytes s ++ z)) (length a + length (segmentBytes s)) (left - sizeOf s))
+  unfolding streamFrom
+  segment-read s some room = rw (stream-op _ (length a) left (omega arith) (operation-read s some room), bytes-size)
 
 -- the stream, read back in any window
 abbrev Back : List ℕ → Type 0

@@ -3,7 +3,7 @@
 use Prim.Native.Nat.{ℕ, _+_, _-_, _*_}
 use mathlib.Core.List.{List}
 use mathlib.Core.Bool.{cond}
-use lib.ListN.{length, getD}
+use lib.ListN.{length, getD, take, drop, replicate}
 use lib.Dec.{ltb, leb, eqb}
 
 -- opcode and length bytes: how many bytes the operation gives and where its data starts; or the window ends before or
@@ -28,23 +28,24 @@ headOf ws at n =
 unfoldable pub headAt : List ℕ → ℕ → Head
 headAt ws at = cond (leb (length ws) at) cut (headOf ws at (getD ws at 0))
 
--- a run of `count` bytes `value`, or `count` bytes copied from `from`, with `next` the place behind the operation;
--- or the window ends too soon; or the operation runs over the end of its stream
+-- an operation carried out: the bytes that it gives, and the place behind it; or the window ends too soon; or it runs over
+-- the end of its stream
 pub data Operation : Type 0 where
-  run : (value count next : ℕ) → Operation
-  copy : (from count next : ℕ) → Operation
+  gives : (bytes : List ℕ) (next : ℕ) → Operation
   short : Operation
   over : Operation
 
 -- an operation that gives `count` bytes, of which the stream still takes `left`, and has `size` bytes of data at `body`
-abbrev pub checked : List ℕ → ℕ → ℕ → ℕ → ℕ → Operation → Operation
-checked ws left count body size o = cond (ltb left count) over (cond (ltb (length ws) (body + size)) short o)
+abbrev pub unlessFails : List ℕ → ℕ → ℕ → ℕ → ℕ → Operation → Operation
+unlessFails ws left count body size o = cond (ltb left count) over (cond (ltb (length ws) (body + size)) short o)
 
--- the operation of a head: a run's data is its value, a copy's the bytes copied
+-- the operation of a head: a run's data is the byte that it repeats, a copy's the bytes copied
 unfoldable pub operationOf : List ℕ → ℕ → Head → Operation
 operationOf ws left cut = short
-operationOf ws left (runHead count body) = checked ws left count body 1 (run (getD ws body 0) count (body + 1))
-operationOf ws left (copyHead count body) = checked ws left count body count (copy body count (body + count))
+operationOf ws left (runHead count body) =
+    unlessFails ws left count body 1 (gives (replicate count (getD ws body 0)) (body + 1))
+operationOf ws left (copyHead count body) =
+    unlessFails ws left count body count (gives (take count (drop body ws)) (body + count))
 
 unfoldable pub operationAt : List ℕ → ℕ → ℕ → Operation
 operationAt ws at left = operationOf ws left (headAt ws at)

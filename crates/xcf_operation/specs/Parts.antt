@@ -1,37 +1,42 @@
--- What the code's answers stand for, and the contracts of its functions, by name.
-use mathlib.Core.Path.{_≡_}
+-- What the code's answers stand for, and the contracts of its functions, by name. A flag says of an operation whether it is a
+-- run; otherwise it is a copy.
 use mathlib.Core.List.{List}
-use mathlib.Core.Bool.{true, false}
+use mathlib.Core.Bool.{Bool, cond}
 use Prim.Native.Nat.{ℕ, _+_, _≤_}
-use lib.ListN.{length}
-use lib.Dec.{ltb}
+use lib.ListN.{length, getD, take, drop, replicate}
 use Rattle.xcf_operation.specs.declared.HeadRead.{HeadRead}
-use Rattle.xcf_operation.specs.declared.HeadRead.the-variants.{Run as RunHeadRead, Copy as CopyHeadRead, Cut}
-use Rattle.xcf_operation.specs.declared.Fault.{Fault}
-use Rattle.xcf_operation.specs.declared.Fault.the-variants.{Over as TooMany, Short as Missing, None as NoFault}
+use Rattle.xcf_operation.specs.declared.HeadRead.the-variants.{Whole, Cut}
 use Rattle.xcf_operation.specs.declared.OperationRead.{OperationRead}
-use Rattle.xcf_operation.specs.declared.OperationRead.the-variants.{Run, Copy, Short, Over}
-use Rattle.xcf_operation.specs.Operation.{Head, runHead, copyHead, cut, Operation, run, copy, short, over}
+use Rattle.xcf_operation.specs.declared.OperationRead.the-variants.{Given, Short, Over}
+use Rattle.xcf_operation.specs.Operation.{Head, runHead, copyHead, cut, Operation, gives, short, over}
+
+abbrev pub headFor : Bool → ℕ → ℕ → Head
+headFor run count body = cond run (runHead count body) (copyHead count body)
 
 abbrev pub headRead : HeadRead → Head
-headRead (RunHeadRead count body) = runHead count body
-headRead (CopyHeadRead count body) = copyHead count body
+headRead (Whole run count body) = headFor run count body
 headRead Cut = cut
 
 -- a head's data starts in the window or at its end
 abbrev pub HeadInside : List ℕ → HeadRead → Type 0
-HeadInside ws (RunHeadRead count body) = body ≤ length ws
-HeadInside ws (CopyHeadRead count body) = body ≤ length ws
+HeadInside ws (Whole run count body) = body ≤ length ws
 HeadInside ws Cut = Unit {0}
 
--- the tests of `checked`, by what was found
-abbrev pub Checked : List ℕ → ℕ → ℕ → ℕ → ℕ → Fault → Type 0
-Checked ws left count body size TooMany = ltb left count ≡ true
-Checked ws left count body size Missing = (ltb left count ≡ false) × (ltb (length ws) (body + size) ≡ true)
-Checked ws left count body size NoFault = (ltb left count ≡ false) × (ltb (length ws) (body + size) ≡ false)
+-- how many bytes of data an operation that gives `count` bytes has
+abbrev pub dataSize : Bool → ℕ → ℕ
+dataSize run count = cond run 1 count
 
-abbrev pub operationRead : OperationRead → Operation
-operationRead (Run value count next) = run value count next
-operationRead (Copy from count next) = copy from count next
-operationRead Short = short
-operationRead Over = over
+-- the `count` bytes that an operation gives, with its data at `from`
+abbrev pub given : List ℕ → Bool → ℕ → ℕ → List ℕ
+given ws run from count = cond run (replicate count (getD ws from 0)) (take count (drop from ws))
+
+abbrev pub operationRead : List ℕ → OperationRead → Operation
+operationRead ws (Given run from count next) = gives (given ws run from count) next
+operationRead ws Short = short
+operationRead ws Over = over
+
+-- an operation's data lies in the window
+abbrev pub DataInside : List ℕ → OperationRead → Type 0
+DataInside ws (Given run from count next) = from + dataSize run count ≤ length ws
+DataInside ws Short = Unit {0}
+DataInside ws Over = Unit {0}

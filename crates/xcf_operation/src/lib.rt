@@ -2,37 +2,29 @@
 ghost use mathlib.Core.Path.{_≡_};
 ghost use Prim.Native.Nat.{_≤_, _<_};
 ghost use lib.ListN.{length};
-ghost use Rattle.xcf_operation.specs.Operation.{runHead, copyHead, headAt, operationOf, operationAt};
-ghost use Rattle.xcf_operation.specs.Parts.{headRead, HeadInside, Checked, operationRead};
+ghost use Rattle.xcf_operation.specs.Operation.{headAt, operationOf, operationAt};
+ghost use Rattle.xcf_operation.specs.Parts.{headFor, headRead, HeadInside, dataSize, operationRead, DataInside};
 
-// An opcode with its length bytes: how many bytes the operation gives, and where its data starts.
+// An opcode with its length bytes: whether the operation is a run or a copy, how many bytes it gives, and where its data starts.
 pub enum HeadRead {
-    Run { count: usize, body: usize },
-    Copy { count: usize, body: usize },
+    Whole {
+        run: bool,
+        count: usize,
+        body: usize,
+    },
     Cut,
 }
 
-// An operation in a stream that still takes so many bytes.
+// An operation in a stream that still takes so many bytes: a run of the byte at `from`, or the bytes copied from there.
 pub enum OperationRead {
-    Run {
-        value: u8,
-        count: usize,
-        next: usize,
-    },
-    Copy {
+    Given {
+        run: bool,
         from: usize,
         count: usize,
         next: usize,
     },
     Short,
     Over,
-}
-
-// What stands in the way of an operation, if anything.
-pub enum Fault {
-    Over,
-    Short,
-    None,
 }
 
 fn wide(x: u8) -> usize
@@ -49,13 +41,15 @@ fn head_at(window: &[u8], at: usize) -> HeadRead
     }
     let code = wide(window[at]);
     if code < 127 {
-        return HeadRead::Run {
+        return HeadRead::Whole {
+            run: true,
             count: code + 1,
             body: at + 1,
         };
     }
     if 128 < code {
-        return HeadRead::Copy {
+        return HeadRead::Whole {
+            run: false,
             count: 256 - code,
             body: at + 1,
         };
@@ -64,70 +58,49 @@ fn head_at(window: &[u8], at: usize) -> HeadRead
         return HeadRead::Cut;
     }
     let count = wide(window[at + 1]) * 256 + wide(window[at + 2]);
-    if code == 127 {
-        HeadRead::Run {
-            count,
-            body: at + 3,
-        }
-    } else {
-        HeadRead::Copy {
-            count,
-            body: at + 3,
-        }
+    HeadRead::Whole {
+        run: code == 127,
+        count,
+        body: at + 3,
     }
 }
 
-// Whether the stream takes `count` more bytes, and then whether `size` bytes of data stand at `body`.
-fn find_fault(window: &[u8], left: usize, count: usize, body: usize, size: usize) -> Fault
-    requires { ⌜ body ≤ length (now window) ⌝ }
-    ensures { λ r. ⌜ Checked (now (window .entry)) left count body size r ⌝ }
+// A run's data is the byte that it repeats, a copy's the bytes copied.
+fn data_size(run: bool, count: usize) -> usize
+    ensures { λ r. ⌜ r ≡ dataSize run count ⌝ }
 {
+    if run {
+        return 1;
+    }
+    count
+}
+
+// Whether the stream takes `count` more bytes, and then whether the data stands at `body`.
+fn operation_of(window: &[u8], left: usize, run: bool, count: usize, body: usize) -> OperationRead
+    requires { ⌜ body ≤ length (now window) ⌝ }
+    ensures { λ r. ⌜ (operationRead (now (window .entry)) r ≡ operationOf (now (window .entry)) left (headFor run count body)) × DataInside (now (window .entry)) r ⌝ }
+{
+    let size = data_size(run, count);
     let rest = window.len() - body;
     if left < count {
-        return Fault::Over;
+        return OperationRead::Over;
     }
     if rest < size {
-        return Fault::Short;
+        return OperationRead::Short;
     }
-    Fault::None
-}
-
-fn run_operation(window: &[u8], left: usize, count: usize, body: usize) -> OperationRead
-    requires { ⌜ body ≤ length (now window) ⌝ }
-    ensures { λ r. ⌜ operationRead r ≡ operationOf (now (window .entry)) left (runHead count body) ⌝ }
-{
-    match find_fault(window, left, count, body, 1) {
-        Fault::Over => OperationRead::Over,
-        Fault::Short => OperationRead::Short,
-        Fault::None => OperationRead::Run {
-            value: window[body],
-            count,
-            next: body + 1,
-        },
-    }
-}
-
-fn copy_operation(window: &[u8], left: usize, count: usize, body: usize) -> OperationRead
-    requires { ⌜ body ≤ length (now window) ⌝ }
-    ensures { λ r. ⌜ operationRead r ≡ operationOf (now (window .entry)) left (copyHead count body) ⌝ }
-{
-    match find_fault(window, left, count, body, count) {
-        Fault::Over => OperationRead::Over,
-        Fault::Short => OperationRead::Short,
-        Fault::None => OperationRead::Copy {
-            from: body,
-            count,
-            next: body + count,
-        },
+    OperationRead::Given {
+        run,
+        from: body,
+        count,
+        next: body + size,
     }
 }
 
 pub fn operation_at(window: &[u8], at: usize, left: usize) -> OperationRead
-    ensures { λ r. ⌜ operationRead r ≡ operationAt (now (window .entry)) at left ⌝ }
+    ensures { λ r. ⌜ (operationRead (now (window .entry)) r ≡ operationAt (now (window .entry)) at left) × DataInside (now (window .entry)) r ⌝ }
 {
     match head_at(window, at) {
         HeadRead::Cut => OperationRead::Short,
-        HeadRead::Run { count, body } => run_operation(window, left, count, body),
-        HeadRead::Copy { count, body } => copy_operation(window, left, count, body),
+        HeadRead::Whole { run, count, body } => operation_of(window, left, run, count, body),
     }
 }

@@ -2,9 +2,9 @@
 use Prim.Native.Nat.{ℕ, zero, suc, _+_, _-_}
 use mathlib.Core.List.{List, [], _++_}
 use mathlib.Core.Bool.{cond}
-use lib.ListN.{length, take, drop, replicate}
+use lib.ListN.{length}
 use lib.Dec.{ltb}
-use Rattle.xcf_operation.specs.Operation.{Operation, run, copy, short, over, operationAt}
+use Rattle.xcf_operation.specs.Operation.{Operation, gives, short, over, operationAt}
 
 -- mark 0 and the place behind the stream, or the mark and place of the operation that fails; the number of operations
 -- carried out in full, and their bytes
@@ -19,21 +19,20 @@ abbrev pub ends : ℕ → ℕ → Stream
 ends mark at = record { mark = mark; at = at; operations = 0; bytes = [] }
 
 -- an operation that gives bs, and the stream behind it
-abbrev pub gives : List ℕ → Stream → Stream
-gives bs s = record { mark = s .mark; at = s .at; operations = 1 + s .operations; bytes = bs ++ s .bytes }
+abbrev pub adds : List ℕ → Stream → Stream
+adds bs s = record { mark = s .mark; at = s .at; operations = 1 + s .operations; bytes = bs ++ s .bytes }
 
 -- the stream whose next operation is the one given; `rest` is the stream from a later place on
-unfoldable pub streamFrom : (ℕ → ℕ → Stream) → List ℕ → ℕ → ℕ → Operation → Stream
-streamFrom rest ws at left short = ends 20 at
-streamFrom rest ws at left over = ends 21 at
-streamFrom rest ws at left (run value count next) = gives (replicate count value) (rest next (left - count))
-streamFrom rest ws at left (copy from count next) = gives (take count (drop from ws)) (rest next (left - count))
+unfoldable pub streamFrom : (ℕ → ℕ → Stream) → ℕ → ℕ → Operation → Stream
+streamFrom rest at left short = ends 20 at
+streamFrom rest at left over = ends 21 at
+streamFrom rest at left (gives bs next) = adds bs (rest next (left - length bs))
 
 -- a stream of `left` bytes at `at`. Each operation takes a byte of the window at least, so `fuel`, the bytes behind `at`, is enough
 unfoldable pub streamWithin : ℕ → List ℕ → ℕ → ℕ → Stream
 streamWithin zero ws at left = cond (ltb 0 left) (ends 20 at) (ends 0 at)
 streamWithin (suc fuel) ws at left =
-    cond (ltb 0 left) (streamFrom (streamWithin fuel ws) ws at left (operationAt ws at left)) (ends 0 at)
+    cond (ltb 0 left) (streamFrom (streamWithin fuel ws) at left (operationAt ws at left)) (ends 0 at)
 
 unfoldable pub streamAt : List ℕ → ℕ → ℕ → Stream
 streamAt ws at left = streamWithin (length ws - at) ws at left

@@ -3,8 +3,7 @@ pub mod scatter;
 
 ghost use mathlib.Core.Path.{_≡_};
 ghost use Rattle.xcf_stream.specs.Parts.{endedAt, Plane, Streamed, StreamedAll, Sized};
-use crate::scatter::put_copy;
-use crate::scatter::put_run;
+use crate::scatter::put_given;
 use xcf_operation::OperationRead;
 use xcf_operation::operation_at;
 
@@ -45,14 +44,13 @@ fn stream(
         match operation_at(window, at, left) {
             OperationRead::Short => return ended(20, at, operations),
             OperationRead::Over => return ended(21, at, operations),
-            OperationRead::Run { value, count, next } => {
-                to = put_run(pixels, to, depth, count, value);
-                at = next;
-                left -= count;
-                operations += 1;
-            }
-            OperationRead::Copy { from, count, next } => {
-                to = put_copy(window, from, pixels, to, depth, count);
+            OperationRead::Given {
+                run,
+                from,
+                count,
+                next,
+            } => {
+                to = put_given(window, run, from, pixels, to, depth, count);
                 at = next;
                 left -= count;
                 operations += 1;

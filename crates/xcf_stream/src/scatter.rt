@@ -2,6 +2,7 @@
 ghost use mathlib.Core.Path.{_≡_};
 ghost use Prim.Native.Nat.{_+_, _*_, _≤_};
 ghost use lib.ListN.{length, replicate, take, drop};
+ghost use Rattle.xcf_operation.specs.Parts.{dataSize, given};
 ghost use Rattle.xcf_stream.specs.Parts.{scatter, Room};
 
 // `value`, `count` times, at `at` and every `step` bytes after it.
@@ -44,7 +45,7 @@ fn copy(
 }
 
 // `fill`, with a loop of its own for each depth of a pixel: the compiler makes a block fill of the first, and unrolls the others.
-pub(crate) fn put_run(pixels: &mut [u8], at: usize, step: usize, count: usize, value: u8) -> usize
+fn put_run(pixels: &mut [u8], at: usize, step: usize, count: usize, value: u8) -> usize
     requires { ⌜ Room (now pixels) at step count ⌝ }
     ensures { λ r. ⌜ (r ≡ at + step * count) × (now (pixels .exit) ≡ scatter (now (pixels .entry)) at step (replicate count value)) ⌝ }
 {
@@ -64,7 +65,7 @@ pub(crate) fn put_run(pixels: &mut [u8], at: usize, step: usize, count: usize, v
 }
 
 // `copy`, with a loop of its own for each depth of a pixel.
-pub(crate) fn put_copy(
+fn put_copy(
     window: &[u8],
     from: usize,
     pixels: &mut [u8],
@@ -88,6 +89,25 @@ pub(crate) fn put_copy(
         return copy(window, from, pixels, at, 4, count);
     }
     copy(window, from, pixels, at, step, count)
+}
+
+// What an operation with its data at `from` gives, a run or a copy, at `at` and every `step` bytes after it.
+pub(crate) fn put_given(
+    window: &[u8],
+    run: bool,
+    from: usize,
+    pixels: &mut [u8],
+    at: usize,
+    step: usize,
+    count: usize,
+) -> usize
+    requires { ⌜ (from + dataSize run count ≤ length (now window)) × Room (now pixels) at step count ⌝ }
+    ensures { λ r. ⌜ (r ≡ at + step * count) × (now (pixels .exit) ≡ scatter (now (pixels .entry)) at step (given (now (window .entry)) run from count)) ⌝ }
+{
+    if run {
+        return put_run(pixels, at, step, count, window[from]);
+    }
+    put_copy(window, from, pixels, at, step, count)
 }
 
 pub fn clear(pixels: &mut [u8])

@@ -6,9 +6,9 @@ use mathlib.Core.List.{List, [], _∷_}
 use Prim.Native.Nat.{ℕ, zero, suc, _-_}
 use native.Mathlib.Omega.{arith}
 use borrow.Author.Tests.{ltb-false, eqb-true, eqb-false}
-use lib.ListN.{length, length-append, length-replicate, length-take, length-drop}
+use lib.ListN.{length, length-append}
 use lib.Dec.{ltb, eqb}
-use Rattle.xcf_operation.specs.Operation.{Operation, run, copy, short, over, operationAt}
+use Rattle.xcf_operation.specs.Operation.{Operation, gives, short, over, operationAt}
 use Rattle.xcf_stream.specs.Stream.{Stream, streamFrom, streamWithin, streamAt}
 use Rattle.xcf_stream.specs.Streams.{Streams, before, streamsAt}
 use Rattle.xcf_laws.proofs.Cases.{by-cases}
@@ -18,18 +18,17 @@ use Rattle.xcf_stream.proofs.StreamLaws.{Sound, sound}
 abbrev Whole : ℕ → Stream → Type 0
 Whole left s = s .mark ≡ 0 → length (s .bytes) ≡ left
 
-from-whole : (rest : ℕ → ℕ → Stream) (ws : List ℕ) (at left : ℕ) (o : Operation) → Sound ws at left o → ((n l : ℕ) → Whole l (rest n l)) → Whole left (streamFrom rest ws at left o)
+from-whole : (rest : ℕ → ℕ → Stream) (ws : List ℕ) (at left : ℕ) (o : Operation) → Sound ws at left o → ((n l : ℕ) → Whole l (rest n l)) → Whole left (streamFrom rest at left o)
 unfolding streamFrom
 from-whole rest ws at left short s h = λ z. absurd (omega arith)
 from-whole rest ws at left over s h = λ z. absurd (omega arith)
-from-whole rest ws at left (run value count next) s h = λ z. simp (length-append, length-replicate) (omega (arith, h next (left - count) z, s .0))
-from-whole rest ws at left (copy from count next) s h = λ z. simp (length-append, length-take, length-drop) (omega (arith, h next (left - count) z, s))
+from-whole rest ws at left (gives bs next) s h = λ z. simp length-append (omega (arith, h next (left - length bs) z, s .0))
 
 within-whole : (fuel : ℕ) (ws : List ℕ) (at left : ℕ) → Whole left (streamWithin fuel ws at left)
 unfolding streamWithin
 within-whole zero ws at left = by-cases (Whole left) (ltb 0 left) _ _ (λ _ z. absurd (omega arith)) (λ e z. omega (arith, ltb-false 0 left e))
 within-whole (suc fuel) ws at left =
-    by-cases (Whole left) (ltb 0 left) _ _ (λ _. from-whole (streamWithin fuel ws) ws at left (operationAt ws at left) (sound ws at left) (within-whole fuel ws))
+    by-cases (Whole left) (ltb 0 left) _ _ (λ _. from-whole (streamWithin fuel ws) ws at left (operationAt ws at left) (sound ws at left refl) (within-whole fuel ws))
     (λ e z. omega (arith, ltb-false 0 left e))
 
 pub stream-whole : (ws : List ℕ) (at left : ℕ) → streamAt ws at left .mark ≡ 0 → length (streamAt ws at left .bytes) ≡ left

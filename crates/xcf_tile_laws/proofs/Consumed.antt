@@ -13,8 +13,9 @@ use borrow.Author.Tests.{ltb-true, ltb-false, lt-leb, le-ltb, eqb-true, eqb-fals
 use lib.ListN.{length, getD, take, drop, replicate, length-take}
 use lib.Seq.{getD-take, take-take, take-nil}
 use lib.Dec.{ltb, leb, eqb}
-use Rattle.xcf_operation.specs.Operation.{Head, runHead, copyHead, cut, headAt, headOf, Operation, run, copy, short, over, operationAt, operationOf}
-use Rattle.xcf_stream.specs.Stream.{Stream, gives, streamFrom, streamWithin, streamAt}
+use Rattle.xcf_operation.specs.Operation.{Head, runHead, copyHead, cut, headAt, headOf, Operation, gives, short, over, unlessFails, operationAt, operationOf}
+use Rattle.xcf_operation.specs.Parts.{headFor}
+use Rattle.xcf_stream.specs.Stream.{Stream, adds, streamFrom, streamWithin, streamAt}
 use Rattle.xcf_stream.specs.Streams.{Streams, streamsAt}
 use Rattle.xcf_tile.specs.Tile.{Tile, plainTile, encodedTile, tileIn, windowLimit, tileOf}
 use Rattle.xcf_laws.proofs.Cases.{by-cases}
@@ -26,29 +27,31 @@ HeadBefore m cut = ⊥
 HeadBefore m (runHead count body) = body ≤ m
 HeadBefore m (copyHead count body) = body ≤ m
 
+body-before : (m : ℕ) (run : Bool) (count body : ℕ) → HeadBefore m (headFor run count body) → body ≤ m
+body-before m true count body h = h
+body-before m false count body h = h
+
 -- an operation that ends before m
 abbrev Before : ℕ → Operation → Type 0
 Before m short = ⊥
 Before m over = ⊥
-Before m (run value count next) = next ≤ m
-Before m (copy from count next) = (next ≤ m) × (from + count ≤ m)
+Before m (gives bs next) = next ≤ m
 
 -- no stream ends before it starts, nor behind the window
 abbrev Ends : List ℕ → ℕ → Stream → Type 0
 Ends ws at s = (at ≤ s .at) × (at ≤ length ws → s .at ≤ length ws)
 
-from-ends : (rest : ℕ → ℕ → Stream) (ws : List ℕ) (at left : ℕ) (o : Operation) → Sound ws at left o → ((n l : ℕ) → Ends ws n (rest n l)) → Ends ws at (streamFrom rest ws at left o)
+from-ends : (rest : ℕ → ℕ → Stream) (ws : List ℕ) (at left : ℕ) (o : Operation) → Sound ws at left o → ((n l : ℕ) → Ends ws n (rest n l)) → Ends ws at (streamFrom rest at left o)
 unfolding streamFrom
 from-ends rest ws at left short s h = (omega arith, λ i. i)
 from-ends rest ws at left over s h = (omega arith, λ i. i)
-from-ends rest ws at left (run value count next) s h = let e = h next (left - count) in (omega (arith, e .0, s), λ i. e .1 (s .1 .1))
-from-ends rest ws at left (copy from count next) s h = let e = h next (left - count) in (omega (arith, e .0, s), λ i. e .1 (s .1 .1 .0))
+from-ends rest ws at left (gives bs next) s h = let e = h next (left - length bs) in (omega (arith, e .0, s), λ i. e .1 (s .1 .1))
 
 within-ends : (fuel : ℕ) (ws : List ℕ) (at left : ℕ) → Ends ws at (streamWithin fuel ws at left)
 unfolding streamWithin
 within-ends zero ws at left = by-cases (Ends ws at) (ltb 0 left) _ _ (λ _. (omega arith, λ i. i)) (λ _. (omega arith, λ i. i))
 within-ends (suc fuel) ws at left =
-    by-cases (Ends ws at) (ltb 0 left) _ _ (λ _. from-ends (streamWithin fuel ws) ws at left (operationAt ws at left) (sound ws at left) (within-ends fuel ws))
+    by-cases (Ends ws at) (ltb 0 left) _ _ (λ _. from-ends (streamWithin fuel ws) ws at left (operationAt ws at left) (sound ws at left refl) (within-ends fuel ws))
     (λ _. (omega arith, λ i. i))
 
 stream-ends : (ws : List ℕ) (at left : ℕ) → Ends ws at (streamAt ws at left)
@@ -75,6 +78,12 @@ module _ (ws vs : List ℕ) (m : ℕ) (same : take m ws ≡ take m vs) (long : m
   byte-same : (i : ℕ) → i < m → getD vs i 0 ≡ getD ws i 0
   byte-same i h = sym (getD-take m vs i 0 h) ∙ ap (λ (l : List ℕ). getD l i 0) (sym same) ∙ getD-take m ws i 0 h
 
+  copied-same : (from count : ℕ) → from + count ≤ m → take count (drop from vs) ≡ take count (drop from ws)
+  copied-same from count h =
+      take-drop from count vs
+      ∙ ap (drop from) (sym (take-take (from + count) m vs h) ∙ ap (take (from + count)) (sym same) ∙ take-take (from + count) m ws h)
+      ∙ sym (take-drop from count ws)
+
   abbrev HeadSame : ℕ → Head → Type 0
   HeadSame at h = HeadBefore m h → headAt vs at ≡ h
 
@@ -87,24 +96,26 @@ module _ (ws vs : List ℕ) (m : ℕ) (same : take m ws ≡ take m vs) (long : m
       (λ e. by-cases (HeadSame at) (ltb 128 (getD ws at 0)) _ _
       (λ f b. simp (lt-leb (length vs) at (omega arith), byte-same at (omega arith), e, f))
       (λ f. by-cases (HeadSame at) (ltb (length ws) (at + 3)) _ _ (λ _. absurd)
-      (λ _. by-cases (HeadSame at) (eqb (getD ws at 0) 127) _ _
-      (λ g b. simp (lt-leb (length vs) at (omega arith), byte-same at (omega arith), e, f, le-ltb (length vs) (at + 3) (omega arith), g, byte-same (at + 1) (omega arith), byte-same (at + 1 + 1) (omega arith)))
-      (λ g b. simp (lt-leb (length vs) at (omega arith), byte-same at (omega arith), e, f, le-ltb (length vs) (at + 3) (omega arith), g, byte-same (at + 1) (omega arith), byte-same (at + 1 + 1) (omega arith)))))))
+      (λ _ b.
+      let i : at + 3 ≤ m = body-before m (eqb (getD ws at 0) 127) _ _ b in
+      simp (lt-leb (length vs) at (omega arith), byte-same at (omega arith), e, f, le-ltb (length vs) (at + 3) (omega arith), byte-same (at + 1) (omega arith), byte-same (at + 1 + 1) (omega arith))))))
 
-  abbrev OperationSame : ℕ → Head → Operation → Type 0
-  OperationSame left h o = Before m o → HeadBefore m h × (operationOf vs left h ≡ o)
+  abbrev UnlessSame : ℕ → ℕ → ℕ → ℕ → List ℕ → Operation → Type 0
+  UnlessSame left count body size bs o =
+      Before m o → (body ≤ m) × (unlessFails vs left count body size (gives bs (body + size)) ≡ o)
 
-  operation-of-same : (left : ℕ) (h : Head) → OperationSame left h (operationOf ws left h)
+  -- an operation that gives the same bytes in both windows
+  unless-same : (left count body size : ℕ) {bs bs′ : List ℕ} → (body + size ≤ m → bs′ ≡ bs) → UnlessSame left count body size bs′ (unlessFails ws left count body size (gives bs (body + size)))
+  unless-same left count body size {bs} {bs′} f =
+      by-cases (UnlessSame left count body size bs′) (ltb left count) _ _ (λ _. absurd)
+      (λ e. by-cases (UnlessSame left count body size bs′) (ltb (length ws) (body + size)) _ _ (λ _. absurd)
+      (λ _ b. (omega arith, simp (e, le-ltb (length vs) (body + size) (omega arith), f b))))
+
+  operation-of-same : (left : ℕ) (h : Head) → Before m (operationOf ws left h) → HeadBefore m h × (operationOf vs left h ≡ operationOf ws left h)
   unfolding operationOf
-  operation-of-same left cut = λ b. absurd b
-  operation-of-same left (runHead count body) =
-      by-cases (OperationSame left (runHead count body)) (ltb left count) _ _ (λ _. absurd)
-      (λ e. by-cases (OperationSame left (runHead count body)) (ltb (length ws) (body + 1)) _ _ (λ _. absurd)
-      (λ _ b. (omega arith, simp (e, le-ltb (length vs) (body + 1) (omega arith), byte-same body (omega arith)))))
-  operation-of-same left (copyHead count body) =
-      by-cases (OperationSame left (copyHead count body)) (ltb left count) _ _ (λ _. absurd)
-      (λ e. by-cases (OperationSame left (copyHead count body)) (ltb (length ws) (body + count)) _ _ (λ _. absurd)
-      (λ _ b. (omega arith, simp (e, le-ltb (length vs) (body + count) (omega arith)))))
+  operation-of-same left cut = absurd
+  operation-of-same left (runHead count body) = unless-same left count body 1 (λ b. ap (replicate count) (byte-same body (omega arith)))
+  operation-of-same left (copyHead count body) = unless-same left count body count (copied-same body count)
 
   operation-same : (at left : ℕ) → Before m (operationAt ws at left) → operationAt vs at left ≡ operationAt ws at left
   unfolding operationAt
@@ -112,33 +123,18 @@ module _ (ws vs : List ℕ) (m : ℕ) (same : take m ws ≡ take m vs) (long : m
       let s = operation-of-same left (headAt ws at) b in
       ap (operationOf vs left) (head-same at (s .0)) ∙ s .1
 
-  copied-same : (from count : ℕ) → from + count ≤ m → take count (drop from vs) ≡ take count (drop from ws)
-  copied-same from count h =
-      take-drop from count vs
-      ∙ ap (drop from) (sym (take-take (from + count) m vs h) ∙ ap (take (from + count)) (sym same) ∙ take-take (from + count) m ws h)
-      ∙ sym (take-drop from count ws)
-
   -- a good stream that ends before m
   abbrev StreamSame : ℕ → ℕ → Stream → Type 0
   StreamSame at left s = s .mark ≡ 0 → s .at ≤ m → streamAt vs at left ≡ s
 
-  begun : (at left : ℕ) {o : Operation} → 0 < left → operationAt ws at left ≡ o → Before m o → streamAt vs at left ≡ streamFrom (streamAt vs) vs at left o
-  begun at left h e b =
-      stream-op vs at left h ∙ ap (streamFrom (streamAt vs) vs at left) (operation-same at left (subst (Before m) (sym e) b) ∙ e)
-
-  from-same : (fuel at left : ℕ) (o : Operation) → 0 < left → operationAt ws at left ≡ o → ((n l : ℕ) → StreamSame n l (streamWithin fuel ws n l)) → StreamSame at left (streamFrom (streamWithin fuel ws) ws at left o)
+  from-same : (fuel at left : ℕ) (o : Operation) → 0 < left → operationAt ws at left ≡ o → ((n l : ℕ) → StreamSame n l (streamWithin fuel ws n l)) → StreamSame at left (streamFrom (streamWithin fuel ws) at left o)
   unfolding streamFrom
   from-same fuel at left short h e r = λ z. absurd (omega arith)
   from-same fuel at left over h e r = λ z. absurd (omega arith)
-  from-same fuel at left (run value count next) h e r = λ z b.
-      begun at left h e (omega (arith, within-ends fuel ws next (left - count) .0))
-      ∙ ap (gives (replicate count value)) (r next (left - count) z b)
-  from-same fuel at left (copy from count next) h e r = λ z b.
-      let i : next ≤ m = omega (arith, within-ends fuel ws next (left - count) .0) in
-      let s = subst (Sound ws at left) e (sound ws at left) in
-      let k : from + count ≤ m = omega arith in
-      begun at left h e (i, k)
-      ∙ rw (copied-same from count k) (ap (gives (take count (drop from ws))) (r next (left - count) z b))
+  from-same fuel at left (gives bs next) h e r = λ z b.
+      let i : next ≤ m = omega (arith, within-ends fuel ws next (left - length bs) .0) in
+      stream-op vs at left h (operation-same at left (subst (Before m) (sym e) i) ∙ e)
+      ∙ ap (adds bs) (r next (left - length bs) z b)
 
   within-same : (fuel at left : ℕ) → StreamSame at left (streamWithin fuel ws at left)
   unfolding streamWithin

@@ -6,7 +6,7 @@ use mathlib.Core.List.{List}
 use mathlib.Core.Logic.{_⊎_, inl, inr}
 use lib.ListN.{length, take}
 use lib.Dec.{ltb, leb, eqb}
-use Rattle.xcf_operation.specs.Operation.{Operation, run, copy, short, over, operationAt}
+use Rattle.xcf_operation.specs.Operation.{Operation, gives, short, over, operationAt}
 use Rattle.xcf_stream.specs.Stream.{Stream, streamFrom, streamWithin, streamAt}
 use Rattle.xcf_stream.specs.Streams.{Streams, streamsAt}
 use Rattle.xcf_tile.specs.Tile.{Tile, plainTile, encodedTile, tileIn, windowLimit, tileOf}
@@ -17,19 +17,18 @@ abbrev pub Listed : ℕ → Type 0
 Listed m = (m ≡ 0) ⊎ ((m ≡ 20) ⊎ (m ≡ 21))
 
 -- a stream has the mark of the operation that ends it
-from-listed : (rest : ℕ → ℕ → Stream) (ws : List ℕ) (at left : ℕ) (o : Operation) → ((n l : ℕ) → Listed (rest n l .mark)) → Listed (streamFrom rest ws at left o .mark)
+from-listed : (rest : ℕ → ℕ → Stream) (at left : ℕ) (o : Operation) → ((n l : ℕ) → Listed (rest n l .mark)) → Listed (streamFrom rest at left o .mark)
 unfolding streamFrom
-from-listed rest ws at left short h = inr (inl refl)
-from-listed rest ws at left over h = inr (inr refl)
-from-listed rest ws at left (run value count next) h = h next (left - count)
-from-listed rest ws at left (copy from count next) h = h next (left - count)
+from-listed rest at left short h = inr (inl refl)
+from-listed rest at left over h = inr (inr refl)
+from-listed rest at left (gives bs next) h = h next (left - length bs)
 
 within-listed : (fuel : ℕ) (ws : List ℕ) (at left : ℕ) → Listed (streamWithin fuel ws at left .mark)
 unfolding streamWithin
 within-listed zero ws at left = by-cases (λ (s : Stream). Listed (s .mark)) (ltb 0 left) _ _ (λ _. inr (inl refl)) (λ _. inl refl)
 within-listed (suc fuel) ws at left =
     by-cases (λ (s : Stream). Listed (s .mark)) (ltb 0 left) _ _
-    (λ _. from-listed (streamWithin fuel ws) ws at left (operationAt ws at left) (within-listed fuel ws)) (λ _. inl refl)
+    (λ _. from-listed (streamWithin fuel ws) at left (operationAt ws at left) (within-listed fuel ws)) (λ _. inl refl)
 
 stream-listed : (ws : List ℕ) (at left : ℕ) → Listed (streamAt ws at left .mark)
 unfolding streamAt

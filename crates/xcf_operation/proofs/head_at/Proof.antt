@@ -1,12 +1,22 @@
 -- `head_at` meets its contract: each return rewrites the definition with the tests that led there.
 use borrow.Author.Needs.{needs}
-use borrow.Author.Tests.{le-ltb, lt-ltb, le-leb, lt-leb, eq-eqb, ne-eqb}
+use borrow.Author.Tests.{le-ltb, lt-ltb, le-leb, lt-leb}
 use native.Mathlib.Nat.{add-assoc}
 use native.Mathlib.Omega.{arith}
 use Rattle.xcf_operation.proofs.Room.{ends-behind, lies-within}
 use Rattle.xcf_operation.specs.Operation.{headAt, headOf}
 use Rattle.xcf_operation.proofs.head_at.Statement.{statement}
 use Rattle.xcf_operation.proofs.head_at.Tie as tie
+
+-- from a place to the one before it that a need cites
+abbrev present : tie.After-wide → tie.Else1
+present c = c .before .before
+
+abbrev long : tie.After-wide3 → tie.Else4
+long c = c .before .before .before .before
+
+abbrev opcode : tie.Else4 → tie.After-wide
+opcode c = c .before .before .before
 
 returns : tie.Need-returns
 unfolding headAt headOf
@@ -43,7 +53,9 @@ sub-if4 c = search needs
 
 returns-4 : tie.Need-returns-4
 unfolding headAt headOf
-returns-4 c = (simp (lt-leb _ _ (c .before .before .before .before .before .if1 .left), ← c .before .before .before .wide .ensures .0, le-ltb _ _ (c .before .before .if2 .left), le-ltb _ _ (c .before .if3 .left), ends-behind _ _ _ (omega arith) (c .if4 .taken)), tt)
+returns-4 c =
+    let o = c .before .before .before in
+    (simp (lt-leb _ _ (present o .if1 .left), ← o .wide .ensures .0, le-ltb _ _ (c .before .before .if2 .left), le-ltb _ _ (c .before .if3 .left), ends-behind _ _ _ (omega arith) (c .if4 .taken)), tt)
 
 add-wide : tie.Need-add-wide
 add-wide c = search needs
@@ -69,19 +81,14 @@ wide-requires-3 c κs = search needs
 add-count : tie.Need-add-count
 add-count c = search needs
 
-add-t21 : tie.Need-add-t21
-add-t21 c = search needs
-
-add-t22 : tie.Need-add-t22
-add-t22 c = search needs
+add-t5 : tie.Need-add-t5
+add-t5 c = search needs
 
 returns-5 : tie.Need-returns-5
 unfolding headAt headOf
-returns-5 c = (simp (lt-leb _ _ (c .before .before .before .before .before .before .before .before .before .before .if1 .left), ← c .before .before .before .before .before .before .before .before .wide .ensures .0, le-ltb _ _ (c .before .before .before .before .before .before .before .if2 .left), le-ltb _ _ (c .before .before .before .before .before .before .if3 .left), lies-within _ _ _ (omega arith) (c .before .before .before .before .before .if4 .left), eq-eqb _ _ (c .if5 .taken), add-assoc, c .before .wide3 .ensures .0, c .before .before .before .wide2 .ensures .0), omega arith)
-
-returns-6 : tie.Need-returns-6
-unfolding headAt headOf
-returns-6 c = (simp (lt-leb _ _ (c .before .before .before .before .before .before .before .before .before .before .if1 .left), ← c .before .before .before .before .before .before .before .before .wide .ensures .0, le-ltb _ _ (c .before .before .before .before .before .before .before .if2 .left), le-ltb _ _ (c .before .before .before .before .before .before .if3 .left), lies-within _ _ _ (omega arith) (c .before .before .before .before .before .if4 .left), ne-eqb _ _ (c .if5 .left), add-assoc, c .before .wide3 .ensures .0, c .before .before .before .wide2 .ensures .0), omega arith)
+returns-5 c =
+    let l = long c in
+    (rw (lt-leb _ _ (present (opcode l) .if1 .left), ← opcode l .wide .ensures .0, le-ltb _ _ (l .before .before .if2 .left), le-ltb _ _ (l .before .if3 .left), lies-within _ _ _ (omega arith) (l .if4 .left), add-assoc _ 1 1, ← c .wide3 .ensures .0, ← c .before .before .wide2 .ensures .0), omega arith)
 
 pub head-at-spec : {M : Type 1} → statement M
 head-at-spec =
@@ -106,7 +113,5 @@ head-at-spec =
     shared-slice-read-wide-3
     wide-requires-3
     add-count
-    add-t21
-    add-t22
-    returns-5
-    returns-6)
+    add-t5
+    returns-5)

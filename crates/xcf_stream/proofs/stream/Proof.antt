@@ -1,4 +1,4 @@
--- `stream` meets its contract: `Going` holds at the loop's head, and each kind of operation keeps it or ends the stream.
+-- `stream` meets its contract: `Going` holds at the loop's head, and each operation keeps it or ends the stream.
 use Prim.Native.Nat.{_-_}
 use borrow.Author.Needs.{needs}
 use native.Mathlib.Omega.{arith}
@@ -6,13 +6,32 @@ use lib.ListN.{length}
 use Rattle.xcf_stream.proofs.stream.Statement.{statement}
 use Rattle.xcf_stream.proofs.stream.Tie as tie
 use Rattle.xcf_stream.proofs.Scattering.{mul-part}
-use Rattle.xcf_stream.proofs.StreamLoop.{Going, going-run, going-copy, going-short, going-over, going-done, is-sound}
+use Rattle.xcf_stream.proofs.StreamLoop.{Going, Fits, fits, going-given, going-short, going-over, going-done}
 
 abbrev Inv-loop : tie.InvT-loop
 Inv-loop window from n depth k pixels₀ at₀ left₀ to₀ operations₀ pixels at left to operations = Going window from n depth k pixels₀ pixels at left to operations
 
 abbrev μ-loop : tie.MeasureT-loop
 μ-loop window from n depth k pixels₀ at₀ left₀ to₀ operations₀ pixels at left to operations = length window - at
+
+-- from a place to the one before it that a need cites
+abbrev head : tie.After-operation-at Inv-loop μ-loop → tie.At-loop Inv-loop μ-loop
+head c = c .before .before
+
+abbrev begin : tie.At-loop Inv-loop μ-loop → tie.Start Inv-loop μ-loop
+begin c = c .before .before .before
+
+abbrev read : tie.After-run Inv-loop μ-loop → tie.After-operation-at Inv-loop μ-loop
+read c = c .before .before
+
+abbrev put : tie.After-slice-known2 Inv-loop μ-loop → tie.After-run Inv-loop μ-loop
+put c = c .before .before .before .before .before
+
+-- the operation that gives bytes
+fitting : (c : tie.After-run Inv-loop μ-loop)
+    → Fits (begin (head (read c)) .args .window .now) (head (read c) .loop .at) (head (read c) .loop .left)
+    (c .run .given .0 .0) (c .run .given .0 .1 .0) (c .run .given .0 .1 .1 .0) (c .run .given .0 .1 .1 .1 .0)
+fitting c = fits _ _ _ (read c .operation-at .ensures) (c .run .given .1)
 
 loop-holds : tie.Need-loop-holds Inv-loop μ-loop
 loop-holds c = search needs
@@ -30,7 +49,9 @@ same-length : tie.Need-same-length Inv-loop μ-loop
 same-length c = search needs
 
 returns : tie.Need-returns Inv-loop μ-loop
-returns c = rw (c .ended .ensures) (going-short (c .before .before .before .before .before .loop .inv) (c .before .before .before .before .loop-test .taken) (c .before .before .before .operation-at .ensures) (c .before .enum-told .given .1))
+returns c =
+    let o = c .before .before .before in
+    rw (c .ended .ensures) (going-short (head o .loop .inv) (o .before .loop-test .taken) (o .operation-at .ensures) (c .before .enum-told .given .1))
 
 enum-told-2 : tie.Need-enum-told-2 Inv-loop μ-loop
 enum-told-2 c = search needs
@@ -42,65 +63,33 @@ same-length-2 : tie.Need-same-length-2 Inv-loop μ-loop
 same-length-2 c = search needs
 
 returns-2 : tie.Need-returns-2 Inv-loop μ-loop
-returns-2 c = rw (c .ended2 .ensures) (going-over (c .before .before .before .before .before .loop .inv) (c .before .before .before .before .loop-test .taken) (c .before .before .before .operation-at .ensures) (c .before .enum-told2 .given .1))
+returns-2 c =
+    let o = c .before .before .before in
+    rw (c .ended2 .ensures) (going-over (head o .loop .inv) (o .before .loop-test .taken) (o .operation-at .ensures) (c .before .enum-told2 .given .1))
 
-enum-known-value : tie.Need-enum-known-value Inv-loop μ-loop
-enum-known-value c = search needs
+enum-known-run : tie.Need-enum-known-run Inv-loop μ-loop
+enum-known-run c = search needs
 
-put-run-requires : tie.Need-put-run-requires Inv-loop μ-loop
-put-run-requires c κs =
-    let l = c .before .before .before .before .before .before .loop in
-    let h = is-sound _ (l .at) (l .left) (c .before .before .before .before .operation-at .ensures) (c .before .before .value .given .1) in
-    omega (arith, h, l .inv, mul-part (c .before .before .before .before .before .before .before .before .before .args .depth) (c .before .before .value .given .0 .1 .0) (l .left) (h .0))
+put-given-requires : tie.Need-put-given-requires Inv-loop μ-loop
+put-given-requires c κs =
+    let g = c .before .before in
+    let h = head (read g) in
+    omega (arith, fitting g, h .loop .inv, mul-part (begin h .args .depth) (g .run .given .0 .1 .1 .0) (h .loop .left) (fitting g .taken))
 
 sub-left : tie.Need-sub-left Inv-loop μ-loop
-sub-left c =
-    let l = c .before .before .before .before .before .before .before .before .before .loop in
-    let h = is-sound _ (l .at) (l .left) (c .before .before .before .before .before .before .before .operation-at .ensures) (c .before .before .before .before .before .value .given .1) in
-    omega (arith, h)
+sub-left c = omega (arith, fitting (put c))
 
 add-operations : tie.Need-add-operations Inv-loop μ-loop
 add-operations c = search needs
 
 loop-less : tie.Need-loop-less Inv-loop μ-loop
-loop-less c =
-    let l = c .before .before .before .before .before .before .before .before .before .loop in
-    let h = is-sound _ (l .at) (l .left) (c .before .before .before .before .before .before .before .operation-at .ensures) (c .before .before .before .before .before .value .given .1) in
-    omega (arith, h)
+loop-less c = omega (arith, fitting (put c))
 
 loop-again : tie.Need-loop-again Inv-loop μ-loop
 loop-again c =
-    rw (c .before .before .put-run .ensures .0, c .before .before .put-run .ensures .1)
-    (going-run (c .before .before .before .before .before .before .before .before .before .loop .inv) (c .before .before .before .before .before .before .before .before .loop-test .taken) (c .before .before .before .before .before .before .before .operation-at .ensures) (c .before .before .before .before .before .value .given .1))
-
-enum-known-from : tie.Need-enum-known-from Inv-loop μ-loop
-enum-known-from c = search needs
-
-put-copy-requires : tie.Need-put-copy-requires Inv-loop μ-loop
-put-copy-requires c κs =
-    let l = c .before .before .before .before .before .before .loop in
-    let h = is-sound _ (l .at) (l .left) (c .before .before .before .before .operation-at .ensures) (c .before .before .from .given .1) in
-    omega (arith, h, l .inv, mul-part (c .before .before .before .before .before .before .before .before .before .args .depth) (c .before .before .from .given .0 .1 .0) (l .left) (h .0))
-
-sub-left-2 : tie.Need-sub-left-2 Inv-loop μ-loop
-sub-left-2 c =
-    let l = c .before .before .before .before .before .before .before .before .before .loop in
-    let h = is-sound _ (l .at) (l .left) (c .before .before .before .before .before .before .before .operation-at .ensures) (c .before .before .before .before .before .from .given .1) in
-    omega (arith, h)
-
-add-operations-2 : tie.Need-add-operations-2 Inv-loop μ-loop
-add-operations-2 c = search needs
-
-loop-less-2 : tie.Need-loop-less-2 Inv-loop μ-loop
-loop-less-2 c =
-    let l = c .before .before .before .before .before .before .before .before .before .loop in
-    let h = is-sound _ (l .at) (l .left) (c .before .before .before .before .before .before .before .operation-at .ensures) (c .before .before .before .before .before .from .given .1) in
-    omega (arith, h)
-
-loop-again-2 : tie.Need-loop-again-2 Inv-loop μ-loop
-loop-again-2 c =
-    rw (c .before .before .put-copy .ensures .0, c .before .before .put-copy .ensures .1)
-    (going-copy (c .before .before .before .before .before .before .before .before .before .loop .inv) (c .before .before .before .before .before .before .before .before .loop-test .taken) (c .before .before .before .before .before .before .before .operation-at .ensures) (c .before .before .before .before .before .from .given .1))
+    let o = read (put c) in
+    rw (c .before .before .put-given .ensures .0, c .before .before .put-given .ensures .1)
+    (going-given (head o .loop .inv) (o .before .loop-test .taken) (o .operation-at .ensures) (put c .run .given .1))
 
 ended-requires-3 : tie.Need-ended-requires-3 Inv-loop μ-loop
 ended-requires-3 c κs = search needs
@@ -127,18 +116,12 @@ stream-spec =
     ended-requires-2
     same-length-2
     returns-2
-    enum-known-value
-    put-run-requires
+    enum-known-run
+    put-given-requires
     sub-left
     add-operations
     loop-less
     loop-again
-    enum-known-from
-    put-copy-requires
-    sub-left-2
-    add-operations-2
-    loop-less-2
-    loop-again-2
     ended-requires-3
     same-length-3
     returns-3)

@@ -13,6 +13,13 @@ Inv-loop window n depth pixels₀ k₀ at₀ operations₀ pixels k at operation
 abbrev μ-loop : tie.MeasureT-loop
 μ-loop window n depth pixels₀ k₀ at₀ operations₀ pixels k at operations = depth - k
 
+-- from a place to the one before it that a need cites
+abbrev decoded : tie.After-struct-known2 Inv-loop μ-loop → tie.After-stream Inv-loop μ-loop
+decoded c = c .before .before .before .before
+
+abbrev turn : tie.After-stream Inv-loop μ-loop → tie.In-loop Inv-loop μ-loop
+turn c = c .before .before
+
 loop-holds : tie.Need-loop-holds Inv-loop μ-loop
 loop-holds c = going-start _ _ _ _
 
@@ -29,7 +36,9 @@ same-length : tie.Need-same-length Inv-loop μ-loop
 same-length c = search needs
 
 returns : tie.Need-returns Inv-loop μ-loop
-returns c = rw (c .ended .ensures) (going-off (c .before .before .before .before .before .before .before .before .before .loop .inv) (c .before .before .before .before .before .before .before .before .loop-test .taken) _ _ (c .before .before .before .before .before .before .stream .ensures) (c .before .if1 .taken))
+returns c =
+    let s = decoded (c .before .before) in
+    rw (c .ended .ensures) (going-off (turn s .before .loop .inv) (turn s .loop-test .taken) _ _ (s .stream .ensures) (c .before .if1 .taken))
 
 add-k : tie.Need-add-k Inv-loop μ-loop
 add-k c = search needs
@@ -38,7 +47,9 @@ loop-less : tie.Need-loop-less Inv-loop μ-loop
 loop-less c = search needs
 
 loop-again : tie.Need-loop-again Inv-loop μ-loop
-loop-again c = going-on (c .before .before .before .before .before .before .before .before .loop .inv) (c .before .before .before .before .before .before .before .loop-test .taken) _ _ (c .before .before .before .before .before .stream .ensures) (c .if1 .left)
+loop-again c =
+    let s = decoded (c .before) in
+    going-on (turn s .before .loop .inv) (turn s .loop-test .taken) _ _ (s .stream .ensures) (c .if1 .left)
 
 ended-requires-2 : tie.Need-ended-requires-2 Inv-loop μ-loop
 ended-requires-2 c κs = search needs
@@ -48,9 +59,9 @@ same-length-2 c = search needs
 
 returns-2 : tie.Need-returns-2 Inv-loop μ-loop
 returns-2 c =
-    let l = c .before .before .loop in
-    let z : l .k ≡ c .before .before .before .before .before .args .depth = omega arith in
-    rw (c .ended2 .ensures) (all-done (rw z at (l .inv)))
+    let l = c .before .before in
+    let z : l .loop .k ≡ l .before .before .before .args .depth = omega arith in
+    rw (c .ended2 .ensures) (all-done (rw z at (l .loop .inv)))
 
 pub streams-spec : {M : Type 1} → statement M
 streams-spec =
