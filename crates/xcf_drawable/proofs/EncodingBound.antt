@@ -9,9 +9,8 @@ use lib.ListN.{length}
 use Rattle.xcf_table.specs.declared.Row.{Row}
 use Rattle.xcf_grid.proofs.FewTiles.{few-tiles}
 use Rattle.xcf_encode.proofs.TileBound.{tile-bound}
-use Rattle.xcf_drawable.specs.Drawable.{encodings, joined}
+use Rattle.xcf_drawable.specs.Drawable.{encodingOf, encodings, joined}
 use Rattle.xcf_grid.specs.Drawn.{InRange, Drawn, Tiled}
-use Rattle.xcf_drawable.specs.Parts.{encodingOf}
 use Rattle.xcf_grid.proofs.Lines.{tiled-size}
 
 pub tiled : {r : Row} {t : ℕ} {pixels : List ℕ} → Drawn r pixels → t < r .count → Tiled r t pixels
@@ -27,7 +26,7 @@ few {r} range = rw (range .count) (few-tiles (r .width) (r .height) (range .wide
 -- the encodings from t on are that of t and those from t + 1 on
 pub encodings-next : (r : Row) (pixels : List ℕ) (n t : ℕ) → t < n
     → encodings (n - t) t r pixels ≡ encodingOf r t pixels ∷ encodings (n - (t + 1)) (t + 1) r pixels
-unfolding encodings encodingOf
+unfolding encodings
 encodings-next r pixels n t below =
     let e : n - t ≡ suc (n - (t + 1)) = omega (arith, below) in rw e
 

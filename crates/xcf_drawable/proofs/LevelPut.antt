@@ -13,7 +13,7 @@ use Rattle.xcf_store.specs.Put.{Put}
 use Rattle.xcf_store.proofs.Stores.{put-append, put-length}
 use Rattle.xcf_store.specs.Word.{wordBytes, words}
 use Rattle.xcf_structure.specs.Structure.{levelBytes}
-use Rattle.xcf_drawable.specs.Drawable.{encodings, joined, starts, levelSize}
+use Rattle.xcf_drawable.specs.Drawable.{rowTiles, joined, starts, levelSize}
 use Rattle.xcf_drawable.specs.Parts.{Space}
 use Rattle.xcf_store.proofs.Words.{word-length, words-append, words-length}
 use Rattle.xcf_store.proofs.SetsApart.{sets-apart}
@@ -35,23 +35,19 @@ level-words r pointers tiles =
       append-assoc,
     )
 
--- a row's encodings
-abbrev tilesOf : Row → List ℕ → List (List ℕ)
-tilesOf r pixels = encodings (r .count) 0 r pixels
-
 module _ (r : Row) (pixels : List ℕ) {old : List ℕ} {to link : ℕ} {sides : List ℕ} (p : Put old to (words (r .width ∷ r .height ∷ [])) link sides) where
   link-place : link ≡ to + 8
   link-place = p .behind ∙ rw words-length
 
-  pub closing-room : Space old to (levelSize (r .count) + length (joined (tilesOf r pixels))) → link + 4 * r .count + 4 ≤ length sides
+  pub closing-room : Space old to (levelSize (r .count) + length (joined (rowTiles r pixels))) → link + 4 * r .count + 4 ≤ length sides
   closing-room s = omega (arith, link-place, put-length p, s .room)
 
   module _ {first : ℕ} {closed : List ℕ} (q : Put sides (link + 4 * r .count) (wordBytes 0) first closed) where
     first-place : first ≡ to + levelSize (r .count)
     first-place = omega (arith, q .behind, word-length 0, link-place)
 
-    pub tiles-room : Space old to (levelSize (r .count) + length (joined (tilesOf r pixels)))
-        → (link + 4 * r .count ≤ first) × Space closed first (length (joined (tilesOf r pixels)))
+    pub tiles-room : Space old to (levelSize (r .count) + length (joined (rowTiles r pixels)))
+        → (link + 4 * r .count ≤ first) × Space closed first (length (joined (rowTiles r pixels)))
     tiles-room s = (
       omega (arith, first-place, link-place),
       record {
@@ -60,11 +56,11 @@ module _ (r : Row) (pixels : List ℕ) {old : List ℕ} {to link : ℕ} {sides :
       },
     )
 
-    pub level-put : {end : ℕ} {new : List ℕ} → end ≡ first + length (joined (tilesOf r pixels))
-        → new ≡ sets (sets closed link (words (starts (tilesOf r pixels) first))) first (joined (tilesOf r pixels))
-        → Put old to (levelBytes r (starts (tilesOf r pixels) (to + levelSize (r .count))) ++ joined (tilesOf r pixels)) end new
+    pub level-put : {end : ℕ} {new : List ℕ} → end ≡ first + length (joined (rowTiles r pixels))
+        → new ≡ sets (sets closed link (words (starts (rowTiles r pixels) first))) first (joined (rowTiles r pixels))
+        → Put old to (levelBytes r (starts (rowTiles r pixels) (to + levelSize (r .count))) ++ joined (rowTiles r pixels)) end new
     level-put behind output =
-        let pointers : List ℕ = words (starts (tilesOf r pixels) first) in
+        let pointers : List ℕ = words (starts (rowTiles r pixels) first) in
         let long = pointers-length r pixels (r .count) 0 first in
         let between : Put sides link pointers (link + 4 * r .count) (sets sides link pointers) =
         record { behind = omega (arith, long); output = refl } in

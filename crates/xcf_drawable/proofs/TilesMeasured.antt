@@ -9,15 +9,14 @@ use native.Mathlib.Omega.{arith}
 use native.Mathlib.Nat.{zero-add}
 use lib.ListN.{length, length-append}
 use Rattle.xcf_table.specs.declared.Row.{Row}
-use Rattle.xcf_drawable.specs.Drawable.{encodings, joined}
+use Rattle.xcf_drawable.specs.Drawable.{encodingOf, encodings, rowTiles, joined}
 use Rattle.xcf_grid.specs.Drawn.{Drawn}
-use Rattle.xcf_drawable.specs.Parts.{encodingOf}
 use Rattle.xcf_drawable.proofs.EncodingBound.{few, tiled, encoding-bound, joined-next, joined-none}
 
 pub record Measuring (r : Row) (pixels : List ℕ) (t size : ℕ) : Type 0 where
   pub inside : t ≤ r .count
   pub short : size ≤ 16644 * t
-  pub left : size + length (joined (encodings (r .count - t) t r pixels)) ≡ length (joined (encodings (r .count) 0 r pixels))
+  pub left : size + length (joined (encodings (r .count - t) t r pixels)) ≡ length (joined (rowTiles r pixels))
 
 pub measuring-start : {r : Row} {pixels : List ℕ} → Measuring r pixels 0 0
 measuring-start {r} =
@@ -39,5 +38,5 @@ module _ {r : Row} {pixels : List ℕ} {t size : ℕ} (m : Measuring r pixels t 
   pub measuring-small : Drawn r pixels → size ≤ 1090781184
   measuring-small d = omega (arith, m .short, m .inside, few (d .range))
 
-  pub measuring-over : r .count ≤ t → size ≡ length (joined (encodings (r .count) 0 r pixels))
+  pub measuring-over : r .count ≤ t → size ≡ length (joined (rowTiles r pixels))
   measuring-over over = omega (arith, m .left, ap length (joined-none r pixels (r .count) t over))

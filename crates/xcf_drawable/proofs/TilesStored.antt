@@ -13,8 +13,8 @@ use Rattle.xcf_table.specs.Table.{fileLimit}
 use Rattle.xcf_store.specs.Put.{Put}
 use Rattle.xcf_store.proofs.Stores.{put-part, put-length}
 use Rattle.xcf_store.specs.Word.{wordBytes, words}
-use Rattle.xcf_drawable.specs.Drawable.{encodings, joined, starts}
-use Rattle.xcf_drawable.specs.Parts.{Space, encodingOf}
+use Rattle.xcf_drawable.specs.Drawable.{encodingOf, encodings, rowTiles, joined, starts}
+use Rattle.xcf_drawable.specs.Parts.{Space}
 use Rattle.xcf_store.proofs.Words.{word-length, words-length}
 use Rattle.xcf_store.proofs.SetsApart.{stores-next}
 use Rattle.xcf_drawable.proofs.DrawableLength.{encodings-count, starts-length}
@@ -46,9 +46,9 @@ pub record Storing (r : Row) (pixels old : List ℕ) (link first : ℕ) (output 
   pub same : length output ≡ length old
   pub pointers : at + 4 * (r .count - t) ≤ first
   pub behind : first ≤ to
-  pub place : to + length (tilesFrom r pixels t) ≡ first + length (joined (encodings (r .count) 0 r pixels))
+  pub place : to + length (tilesFrom r pixels t) ≡ first + length (joined (rowTiles r pixels))
   pub put : sets (sets output at (pointersFrom r pixels t to)) to (tilesFrom r pixels t)
-      ≡ sets (sets old link (words (starts (encodings (r .count) 0 r pixels) first))) first (joined (encodings (r .count) 0 r pixels))
+      ≡ sets (sets old link (words (starts (rowTiles r pixels) first))) first (joined (rowTiles r pixels))
 
 pub storing-start : {r : Row} {pixels old : List ℕ} {link first : ℕ} → link + 4 * r .count ≤ first
     → Storing r pixels old link first old 0 link first
@@ -61,7 +61,7 @@ module _ {r : Row} {pixels old : List ℕ} {link first : ℕ} {output : List ℕ
     tiles-length : length (tilesFrom r pixels t) ≡ length (encodingOf r t pixels) + length (tilesFrom r pixels (t + 1))
     tiles-length = ap length (joined-next r pixels (r .count) t below) ∙ length-append (encodingOf r t pixels) _
 
-    pub next-room : Space old first (length (joined (encodings (r .count) 0 r pixels)))
+    pub next-room : Space old first (length (joined (rowTiles r pixels)))
         → (at + 4 ≤ to) × ((to + length (encodingOf r t pixels) ≤ length output) × (to + length (encodingOf r t pixels) ≤ fileLimit))
     next-room s = (
       omega (arith, g .pointers, g .behind, below),
@@ -87,7 +87,7 @@ module _ {r : Row} {pixels old : List ℕ} {link first : ℕ} {output : List ℕ
               ∙ (rw (pointers-next r pixels t to below, joined-next r pixels (r .count) t below) at (g .put)));
         }
 
-    module _ (s : Space old first (length (joined (encodings (r .count) 0 r pixels)))) {at′ : ℕ} {mid : List ℕ} (p : Put output at (wordBytes to) at′ mid) where
+    module _ (s : Space old first (length (joined (rowTiles r pixels)))) {at′ : ℕ} {mid : List ℕ} (p : Put output at (wordBytes to) at′ mid) where
       pub next-tile : to + length (encodingOf r t pixels) ≤ length mid
       next-tile = omega (arith, next-room s, put-length p)
 
@@ -96,10 +96,10 @@ module _ {r : Row} {pixels old : List ℕ} {link first : ℕ} {output : List ℕ
           → Storing r pixels old link first (take to mid ++ (part ++ drop (length mid - to) (drop to mid))) (t + 1) at′ (to + n)
       storing-tile q = storing-next p (put-part {k = length mid - to} q (omega (arith, next-tile)) (omega (arith, next-tile)))
 
-  pub storing-behind : r .count ≤ t → to ≡ first + length (joined (encodings (r .count) 0 r pixels))
+  pub storing-behind : r .count ≤ t → to ≡ first + length (joined (rowTiles r pixels))
   storing-behind over = omega (arith, g .place, ap length (joined-none r pixels (r .count) t over))
 
   pub storing-over : r .count ≤ t
       → output
-      ≡ sets (sets old link (words (starts (encodings (r .count) 0 r pixels) first))) first (joined (encodings (r .count) 0 r pixels))
+      ≡ sets (sets old link (words (starts (rowTiles r pixels) first))) first (joined (rowTiles r pixels))
   storing-over over = rw (pointers-none r pixels t to over, joined-none r pixels (r .count) t over) at (g .put)

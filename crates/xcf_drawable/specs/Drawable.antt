@@ -17,15 +17,20 @@ pub record Drawable : Type 0 where
   pub name : List ℕ
   pub pixels : List ℕ
 
--- the encodings of n tiles, from tile t on
+-- the encoding of a row's tile t, those of n tiles from tile t on, and those of all its tiles
+unfoldable pub encodingOf : Row → ℕ → List ℕ → List ℕ
+encodingOf r t pixels =
+    encodeTile (tileWidth (r .width) t * tileHeight (r .width) (r .height) t) (r .depth) (shown (r .width) (r .height) (r .depth) t pixels)
+
 unfoldable pub encodings : ℕ → ℕ → Row → List ℕ → List (List ℕ)
 encodings zero t r pixels = []
-encodings (suc n) t r pixels =
-    encodeTile (tileWidth (r .width) t * tileHeight (r .width) (r .height) t) (r .depth) (shown (r .width) (r .height) (r .depth) t pixels)
-    ∷ encodings n (t + 1) r pixels
+encodings (suc n) t r pixels = encodingOf r t pixels ∷ encodings n (t + 1) r pixels
 
-unfoldable pub tilesOf : Drawable → List (List ℕ)
-tilesOf d = encodings (d .row .count) 0 (d .row) (d .pixels)
+abbrev pub rowTiles : Row → List ℕ → List (List ℕ)
+rowTiles r pixels = encodings (r .count) 0 r pixels
+
+abbrev pub tilesOf : Drawable → List (List ℕ)
+tilesOf d = rowTiles (d .row) (d .pixels)
 
 -- lists one behind the other, and where each begins
 unfoldable pub joined : List (List ℕ) → List ℕ

@@ -17,8 +17,8 @@ use Rattle.xcf_window.specs.Window.{tile}
 use Rattle.xcf_grid.specs.Pixels.{tabulate, shown, pixelsOf}
 use Rattle.xcf_decode.specs.Answer.{marksOf, nonzero, rowDecoding}
 use Rattle.xcf_grid.proofs.Tabulated.{tabulate-length, tabulate-entry}
-use Rattle.xcf_drawable.specs.Drawable.{Drawable, encodings, tilesOf}
-use Rattle.xcf_drawable.specs.Parts.{Writable, encodingOf}
+use Rattle.xcf_drawable.specs.Drawable.{Drawable, encodingOf, encodings, tilesOf}
+use Rattle.xcf_drawable.specs.Parts.{Writable}
 use Rattle.xcf_grid.proofs.Lines.{tiled-width, tiled-height, shown-length}
 use Rattle.xcf_drawable.proofs.EncodingBound.{tiled}
 use Rattle.xcf_round_trip.proofs.Parts.{readRow}
@@ -29,14 +29,13 @@ use Rattle.xcf_round_trip.proofs.WindowRead.{Pointed, window-begins}
 -- tile t's encoding
 encodings-entry : (n i : ℕ) (r : Row) (pixels : List ℕ) (t : ℕ) → t < n
     → getD (encodings n i r pixels) t [] ≡ encodingOf r (i + t) pixels
-unfolding encodings encodingOf
+unfolding encodings
 encodings-entry zero i r pixels t below = absurd (omega arith)
 encodings-entry (suc n) i r pixels zero below = rw add-zero
 encodings-entry (suc n) i r pixels (suc t) below =
     let e : i + suc t ≡ i + 1 + t = omega arith in rw e (encodings-entry n (i + 1) r pixels t (omega arith))
 
 tile-entry : (d : Drawable) (t : ℕ) → t < d .row .count → getD (tilesOf d) t [] ≡ encodingOf (d .row) t (d .pixels)
-unfolding tilesOf
 tile-entry d t below = rw zero-add at (encodings-entry (d .row .count) 0 (d .row) (d .pixels) t below)
 
 -- marks that are all 0

@@ -11,8 +11,8 @@ use Rattle.xcf_encode.specs.Tile.{plane, planes, encodeAll, encodeTile}
 use Rattle.xcf_segment.proofs.Segments.{first-some, encode-cons}
 use Rattle.xcf_segment.proofs.Written.{run-length, copy-length}
 use Rattle.xcf_encode.proofs.Planes.{plane-length}
-use Rattle.xcf_drawable.specs.Drawable.{Drawable, encodings, tilesOf, joined, starts}
-use Rattle.xcf_drawable.specs.Parts.{Writable, encodingOf}
+use Rattle.xcf_drawable.specs.Drawable.{Drawable, encodingOf, encodings, tilesOf, joined, starts}
+use Rattle.xcf_drawable.specs.Parts.{Writable}
 use Rattle.xcf_grid.specs.Drawn.{Drawn, Tiled}
 use Rattle.xcf_grid.proofs.Lines.{tiled-width, tiled-height}
 use Rattle.xcf_drawable.proofs.EncodingBound.{tiled}
@@ -39,7 +39,7 @@ encoding-some {r} x = tile-some _ (r .depth) _ (mul-le-mul (tiled-width x .0) (t
 -- each place is above the one before, from tile t on
 encodings-rise : {r : Row} {pixels : List ℕ} → Drawn r pixels → (n t before q end : ℕ) → t + n ≤ r .count → before < q
     → q + length (joined (encodings n t r pixels)) ≤ end → Rises before (starts (encodings n t r pixels) q) end
-unfolding encodings encodingOf joined starts Rises
+unfolding encodings joined starts Rises
 encodings-rise x zero t before q end count above inside = tt
 encodings-rise {r} {pixels} x (suc n) t before q end count above inside =
     let some = encoding-some {t = t} (tiled x (omega arith)) in
@@ -55,5 +55,4 @@ writable-drawn w = record {
 
 pub tiles-rise : (d : Drawable) (q end : ℕ) → Writable d → 0 < q → q + length (joined (tilesOf d)) ≤ end
     → Rises 0 (starts (tilesOf d) q) end
-unfolding tilesOf
 tiles-rise d q end w some inside = encodings-rise (writable-drawn w) (d .row .count) 0 0 q end (omega arith) some inside

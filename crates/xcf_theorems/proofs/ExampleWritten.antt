@@ -15,7 +15,7 @@ use Rattle.xcf_usable.specs.Usable.{before, rowBefore, seenAt, masked, drawable
 use Rattle.xcf_store.specs.Word.{wordBytes, words}
 use Rattle.xcf_structure.specs.Structure.{nameBytes, propertyBytes, listBytes, drawableProperties, structureBytes, hierarchyBytes, levelBytes}
 use Rattle.xcf_image.specs.Image.{imageProperties, imageBytes}
-use Rattle.xcf_drawable.specs.Drawable.{encodings, tilesOf, joined, starts, structureSize, drawableSize, drawableBytes}
+use Rattle.xcf_drawable.specs.Drawable.{encodingOf, encodings, joined, starts, structureSize, drawableSize, drawableBytes}
 use Rattle.xcf_body.specs.Rows.{drawablesBytes, usedFrom, pixelsSize, drawablesFrom}
 use Rattle.xcf_write.specs.File.{placesOf, versionOf, imageSize, fileBytes}
 use Rattle.xcf_write.specs.Answer.{answered, fileOf, rowsRefusal, inputRefusal, writeAnswer, writeOutput, writing}
@@ -30,7 +30,7 @@ unfolding rowAt sideOk typeOk depthOf before rowBefore seenAt masked drawableOk 
 accepted = refl
 
 file : fileOf canvas exampleTable (115 ∷ []) (255 ∷ []) ≡ exampleFile
-unfolding rowAt leading equalBytes copiedBytes firstSegment segmentsWithin segments written writtenAll encodeStream plane planes encodeAll encodeTile tabulate shown activeType masked wordBytes words nameBytes propertyBytes listBytes imageProperties drawableProperties structureBytes hierarchyBytes levelBytes encodings tilesOf joined starts structureSize drawableSize drawableBytes drawablesBytes placesOf versionOf imageBytes imageSize fileBytes usedFrom drawablesFrom fileOf
+unfolding rowAt leading equalBytes copiedBytes firstSegment segmentsWithin segments written writtenAll encodeStream plane planes encodeAll encodeTile tabulate shown activeType masked wordBytes words nameBytes propertyBytes listBytes imageProperties drawableProperties structureBytes hierarchyBytes levelBytes encodingOf encodings joined starts structureSize drawableSize drawableBytes drawablesBytes placesOf versionOf imageBytes imageSize fileBytes usedFrom drawablesFrom fileOf
 file = refl
 
 pub example-written : ExampleFileIsWritten

@@ -4,7 +4,7 @@ use mathlib.Core.Path.{_≡_}
 use native.Mathlib.Omega.{arith}
 use lib.ListN.{length, length-take, length-drop}
 use Rattle.xcf_table.specs.Table.{fileLimit}
-use Rattle.xcf_drawable.specs.Parts.{encodingOf}
+use Rattle.xcf_drawable.specs.Drawable.{encodingOf}
 use Rattle.xcf_drawable.proofs.EncodingBound.{few, tiled}
 use Rattle.xcf_drawable.proofs.TilesStored.{Storing, storing-start, next-room, next-tile, storing-tile, storing-behind, storing-over}
 use Rattle.xcf_drawable.proofs.put_each.Statement.{statement}
