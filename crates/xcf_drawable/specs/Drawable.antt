@@ -1,7 +1,7 @@
 -- A drawable as it is written: structure, hierarchy, level and tiles, without gaps. A structure's length does not depend on its
 -- pointers: lengths come first, places from them.
 use Prim.Native.Nat.{ℕ, zero, suc, _+_, _*_}
-use mathlib.Core.List.{List, [], _∷_, _++_}
+use mathlib.Core.List.{List, [], _∷_, _++_, flatten}
 use mathlib.Core.Bool.{Bool, cond}
 use lib.ListN.{length}
 use Rattle.xcf_table.specs.declared.Row.{Row}
@@ -32,11 +32,7 @@ rowTiles r pixels = encodings (r .count) 0 r pixels
 abbrev pub tilesOf : Drawable → List (List ℕ)
 tilesOf d = rowTiles (d .row) (d .pixels)
 
--- lists one behind the other, and where each begins
-unfoldable pub joined : List (List ℕ) → List ℕ
-joined [] = []
-joined (xs ∷ xss) = xs ++ joined xss
-
+-- where each of some lists begins, one behind the other
 unfoldable pub starts : List (List ℕ) → ℕ → List ℕ
 starts [] p = []
 starts (xs ∷ xss) p = p ∷ starts xss (p + length xs)
@@ -52,7 +48,7 @@ abbrev pub levelSize : ℕ → ℕ
 levelSize count = 4 * (count + 3)
 
 unfoldable pub drawableSize : Drawable → ℕ
-drawableSize d = structureSize d + (hierarchySize + (levelSize (d .row .count) + length (joined (tilesOf d))))
+drawableSize d = structureSize d + (hierarchySize + (levelSize (d .row .count) + length (flatten (tilesOf d))))
 
 -- a drawable at the place p; its mask comes directly behind it
 unfoldable pub drawableBytes : Drawable → ℕ → List ℕ
@@ -61,4 +57,4 @@ drawableBytes d p =
     let level = hierarchy + hierarchySize in
     let tiles = level + levelSize (d .row .count) in
     structureBytes (d .row) (d .hasMask) (d .name) hierarchy (cond (d .hasMask) (p + drawableSize d) 0)
-    ++ (hierarchyBytes (d .row) level ++ (levelBytes (d .row) (starts (tilesOf d) tiles) ++ joined (tilesOf d)))
+    ++ (hierarchyBytes (d .row) level ++ (levelBytes (d .row) (starts (tilesOf d) tiles) ++ flatten (tilesOf d)))

@@ -3,7 +3,7 @@
 -- Assumes nothing.
 use Prim.Native.Nat.{ℕ, zero, suc, _+_, _*_}
 use mathlib.Core.Path.{_≡_, refl}
-use mathlib.Core.List.{List, [], _∷_, _++_}
+use mathlib.Core.List.{List, [], _∷_, _++_, flatMap}
 use mathlib.Core.Bool.{Bool, true, false, cond}
 use mathlib.Core.Logic.{_⊎_, inl, inr}
 use native.Mathlib.Omega.{arith}
@@ -42,7 +42,7 @@ pub pointers-length : (ps : List ℕ) → length (words (ps ++ (0 ∷ []))) ≡ 
 pointers-length ps = rw (words-length, length-append) (omega arith)
 
 list-length : length (listBytes imageProperties) ≡ 17
-unfolding listBytes imageProperties propertyBytes words wordBytes
+unfolding flatMap imageProperties propertyBytes wordBytes
 list-length = refl
 
 pub image-length : (c : Canvas) (v : ℕ) (ls cs : List ℕ) → (v ≡ 0) ⊎ (v ≡ 2)

@@ -2,13 +2,13 @@
 -- Assumes nothing.
 use Prim.Native.Nat.{ℕ, _+_, _*_, _≤_}
 use mathlib.Core.Path.{_≡_, refl, ap}
-use mathlib.Core.List.{List, [], _∷_, _++_}
+use mathlib.Core.List.{List, [], _∷_, _++_, flatMap}
 use native.Mathlib.Omega.{arith}
 use lib.ListN.{length, getD, length-append}
 use Rattle.xcf_table.specs.declared.canvas.Canvas.{Canvas}
 use Rattle.xcf_parse.specs.Header.{magic, tags}
 use Rattle.xcf_store.specs.Word.{wordBytes, words}
-use Rattle.xcf_structure.specs.Structure.{propertyBytes, listBytes}
+use Rattle.xcf_structure.specs.Structure.{propertyBytes}
 use Rattle.xcf_image.specs.Image.{imageProperties, imageBytes}
 use Rattle.xcf_store.proofs.Words.{words-length}
 use Rattle.xcf_store.proofs.Room.{Fits}
@@ -39,7 +39,7 @@ abbrev pub tagOn : Canvas → ℕ → List ℕ → List ℕ → List ℕ
 tagOn c v ls cs = getD tags v [] ++ sidesOn c ls cs
 
 pub image-parts : (c : Canvas) (v : ℕ) (ls cs : List ℕ) → imageBytes c v ls cs ≡ magic ++ tagOn c v ls cs
-unfolding imageBytes listBytes imageProperties propertyBytes words wordBytes
+unfolding imageBytes flatMap imageProperties propertyBytes wordBytes
 image-parts c v ls cs = refl
 
 pub image-fits : (c : Canvas) (v : ℕ) (ls cs : List ℕ) {l : List ℕ} → length (imageBytes c v ls cs) ≤ length l

@@ -3,7 +3,7 @@
 -- Assumes nothing.
 use Prim.Native.Nat.{ℕ, _+_, _-_, _≤_, _<_}
 use mathlib.Core.Path.{_≡_, ap, _∙_}
-use mathlib.Core.List.{List, [], _∷_, _++_, append-assoc, append-nil}
+use mathlib.Core.List.{List, [], _∷_, _++_, flatMap, append-assoc, append-nil}
 use native.Mathlib.Nat.{sub-zero}
 use native.Mathlib.Omega.{arith}
 use lib.ListN.{length, getD, length-append}
@@ -14,8 +14,9 @@ use Rattle.xcf_store.specs.Put.{Put}
 use Rattle.xcf_store.proofs.Stores.{put-append, put-length}
 use Rattle.xcf_store.specs.Word.{wordBytes, words, when}
 use Rattle.xcf_image.specs.Parts.{kindPlaces}
+use Rattle.xcf_laws.proofs.FlatMaps.{flatMap-append}
 use Rattle.xcf_laws.proofs.Steps.{rest-begins, rest-empty}
-use Rattle.xcf_store.proofs.Words.{words-append, words-length, put-none}
+use Rattle.xcf_store.proofs.Words.{words-length, put-none}
 use Rattle.xcf_image.proofs.ImageLength.{pointers-length}
 
 -- what a row adds
@@ -58,7 +59,7 @@ module _ {start : List ℕ} {to : ℕ} {table : List ℕ} {n kind : ℕ} {places
     pointers-next p = record {
       few = omega arith;
       done = g .done ++ rowPlace kind r (getD places k 0);
-      stored = rw words-append (put-append (g .stored) p);
+      stored = rw flatMap-append (put-append (g .stored) p);
       rest = append-assoc (g .done) _ _ ∙ pointers-step;
     }
 
@@ -81,5 +82,5 @@ module _ {start : List ℕ} {to : ℕ} {table : List ℕ} {n kind : ℕ} {places
 
     pub pointers-whole : {r : ℕ} {new : List ℕ} → Put output next (wordBytes 0) r new
         → Put start to (words (kindPlaces kind table n 0 places ++ (0 ∷ []))) r new
-    unfolding words
-    pointers-whole p = rw (← all-done, words-append, append-nil) (put-append (g .stored) p)
+    unfolding flatMap
+    pointers-whole p = rw (← all-done, flatMap-append, append-nil) (put-append (g .stored) p)

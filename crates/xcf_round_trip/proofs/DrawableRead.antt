@@ -4,7 +4,7 @@
 -- Assumes nothing.
 use Prim.Native.Nat.{ℕ, zero, suc, _+_, _*_, _≤_, _<_}
 use mathlib.Core.Path.{_≡_, refl, ap, sym, _∙_}
-use mathlib.Core.List.{List, _++_}
+use mathlib.Core.List.{List, _++_, flatten}
 use mathlib.Core.Bool.{Bool, true, false, cond}
 use native.Mathlib.Omega.{arith}
 use borrow.Author.Tests.{ne-eqb, eq-eqb}
@@ -23,7 +23,7 @@ use Rattle.xcf_read.specs.Drawable.{channelRows, maskRows, layerRows, canvasCha
 use Rattle.xcf_usable.specs.Usable.{visible, apply, selection, active}
 use Rattle.xcf_usable.proofs.RowFacts.{LayerFacts, ChannelFacts, MaskFacts, CanvasFacts}
 use Rattle.xcf_structure.specs.Structure.{structureBytes}
-use Rattle.xcf_drawable.specs.Drawable.{Drawable, tilesOf, joined, drawableSize, drawableBytes}
+use Rattle.xcf_drawable.specs.Drawable.{Drawable, tilesOf, drawableSize, drawableBytes}
 use Rattle.xcf_drawable.specs.Parts.{Writable}
 use Rattle.xcf_drawable.proofs.DrawableLength.{tiles-counted, starts-length, hierarchyAt, levelAt, tilesAt, maskAt, structureOf, hierarchyOf, levelOf, structure-size, hierarchy-size, level-size, drawable-length}
 use Rattle.xcf_round_trip.proofs.Parts.{Stands, Gives, propertiesOf, sidesSize, readRow}
@@ -46,17 +46,17 @@ module _ {f : List ℕ} {p : ℕ} (d : Drawable) (s : Stands f p (drawableBytes 
   unfolding structureBytes
   name-at = name-stands (d .name) (stands-front _ _ (rw sides-length at (stands-behind (sidesOf (d .row)) _ structure-stands)))
 
-  behind-structure : Stands f (hierarchyAt d p) (hierarchyOf d p ++ (levelOf d p ++ joined (tilesOf d)))
+  behind-structure : Stands f (hierarchyAt d p) (hierarchyOf d p ++ (levelOf d p ++ flatten (tilesOf d)))
   unfolding drawableBytes
   behind-structure = rw structure-size at (stands-behind (structureOf d p) _ s)
 
-  behind-hierarchy : Stands f (levelAt d p) (levelOf d p ++ joined (tilesOf d))
+  behind-hierarchy : Stands f (levelAt d p) (levelOf d p ++ flatten (tilesOf d))
   behind-hierarchy = rw hierarchy-size at (stands-behind (hierarchyOf d p) _ behind-structure)
 
   pub level-stands : Stands f (levelAt d p) (levelOf d p)
   level-stands = stands-front (levelOf d p) _ behind-hierarchy
 
-  pub tiles-stand : Stands f (tilesAt d p) (joined (tilesOf d))
+  pub tiles-stand : Stands f (tilesAt d p) (flatten (tilesOf d))
   tiles-stand = rw level-size at (stands-behind (levelOf d p) _ behind-hierarchy)
 
 -- a flag that is 0 or 1; a layer applies no mask where it has none

@@ -3,7 +3,7 @@
 -- Assumes nothing.
 use Prim.Native.Nat.{ℕ, _+_, _≤_, _<_}
 use mathlib.Core.Path.{_≡_, refl}
-use mathlib.Core.List.{List, [], _∷_, _++_}
+use mathlib.Core.List.{List, [], _∷_, _++_, flatMap}
 use mathlib.Core.Bool.{true}
 use mathlib.Core.Logic.{_⊎_, inl, inr}
 use native.Mathlib.Nat.{zero-add}
@@ -97,7 +97,7 @@ module _ {f : List ℕ} (c : Canvas) (v : ℕ) (layers channels : List ℕ) (w :
   behind-sides = rw words-length at (stands-behind (sidesBytes c) _ behind-tag)
 
   behind-list : Stands f 43 (closed layers ++ closed channels)
-  unfolding wordBytes words propertyBytes listBytes imageProperties
+  unfolding wordBytes flatMap propertyBytes imageProperties
   behind-list = stands-behind (listBytes imageProperties) _ behind-sides
 
   reads-head : sideOk (c .width) ≡ true → sideOk (c .height) ≡ true → c .base ≤ 1 → Reads head f 0 (headOf c v) 43

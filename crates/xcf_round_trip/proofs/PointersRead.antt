@@ -3,7 +3,7 @@
 -- Assumes nothing.
 use Prim.Native.Nat.{ℕ, zero, suc, _+_, _≤_, _<_}
 use mathlib.Core.Path.{_≡_, refl}
-use mathlib.Core.List.{List, [], _∷_, _++_}
+use mathlib.Core.List.{List, [], _∷_, _++_, flatMap}
 use mathlib.Core.Bool.{Bool, true, false}
 use native.Mathlib.Omega.{arith}
 use borrow.Author.Tests.{ne-eqb}
@@ -25,7 +25,7 @@ closed ps = words (ps ++ (0 ∷ []))
 
 pub reads-pointers : {f : List ℕ} {p : ℕ} (most before end : ℕ) (ps : List ℕ) → end ≤ 4294967296 → Rises before ps end
     → length ps ≤ most → Stands f p (closed ps) → Reads (pointers 4 most) f p ps (p + length (closed ps))
-unfolding pointers words wordBytes Rises
+unfolding pointers flatMap wordBytes Rises
 reads-pointers zero before end [] low rise few s =
     then-here _ (then _ (reads-number 0 [] s (omega arith)) (then _ (reads-must _ 8 _ refl) ends))
 reads-pointers zero before end (q ∷ ps) low rise few s = absurd (omega arith)

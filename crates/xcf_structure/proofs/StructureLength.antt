@@ -7,11 +7,12 @@ use Prim.Native.Nat.{ℕ, _+_, _≤_}
 use native.Mathlib.Omega.{arith}
 use lib.ListN.{length, length-append}
 use lib.Dec.{eqb}
+use Rattle.xcf_laws.proofs.FlatMaps.{flatMap-cons, flatMap-append}
 use Rattle.xcf_table.specs.declared.Row.{Row}
 use Rattle.xcf_usable.specs.Usable.{isLayer, selection, active}
 use Rattle.xcf_store.specs.Word.{wordBytes, words, when}
 use Rattle.xcf_structure.specs.Structure.{nameBytes, listBytes, drawableProperties, structureBytes}
-use Rattle.xcf_store.proofs.Words.{word-length, words-cons, words-append, words-length, when-length}
+use Rattle.xcf_store.proofs.Words.{word-length, words-length, when-length}
 pub use Rattle.xcf_structure.proofs.Lists.{list-length}
 
 -- a name's
@@ -59,7 +60,7 @@ module _ (r : Row) (hasMask : Bool) (name : List ℕ) where
   pub structure-words : (hierarchy mask : ℕ) → structureBytes r hasMask name hierarchy mask ≡ sidesOn r hasMask name hierarchy mask
   unfolding structureBytes
   structure-words hierarchy mask =
-      rw (words-append (r .width ∷ r .height ∷ []) (when (isLayer r) (r .form ∷ [])), append-assoc, words-cons hierarchy)
+      rw (flatMap-append wordBytes (r .width ∷ r .height ∷ []) (when (isLayer r) (r .form ∷ [])), append-assoc, flatMap-cons wordBytes hierarchy)
 
   pub structure-size : (hierarchy mask : ℕ) → length (structureBytes r hasMask name hierarchy mask) ≡ 8 + cond (isLayer r) 4 0 + (length (nameBytes name) + (length (listBytes (drawableProperties r hasMask)) + (4 + cond (isLayer r) 4 0)))
   structure-size hierarchy mask = rw structure-words (simp (length-append, when-length, words-length, word-length) (omega arith))
