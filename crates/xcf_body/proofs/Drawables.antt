@@ -17,9 +17,9 @@ use Rattle.xcf_table.specs.Table.{rowAt}
 use Rattle.xcf_usable.specs.Usable.{masked}
 use Rattle.xcf_drawable.specs.Drawable.{Drawable, drawableSize}
 use Rattle.xcf_grid.specs.Drawn.{pixelSize}
-use Rattle.xcf_body.specs.Rows.{pixelsSize, rowDrawable, drawablesFrom}
+use Rattle.xcf_body.specs.Rows.{placesFrom, pixelsSize, rowDrawable, drawablesFrom}
 use Rattle.xcf_drawable.specs.Parts.{Writable, drawn}
-use Rattle.xcf_body.specs.Parts.{RowReady, Ready, ends, endOf, Placed}
+use Rattle.xcf_body.specs.Parts.{RowReady, Ready, endOf, Placed}
 
 -- row k's drawable, whose pixels begin at a place
 abbrev pub rowDrawn : List ℕ → List ℕ → List ℕ → ℕ → ℕ → Drawable
@@ -124,10 +124,10 @@ goes-on l k x xs e =
 
 module _ (places : List ℕ) where
   pub placed-first : {k p : ℕ} (ds : List Drawable) → Placed places k ds p → getD places k 0 ≡ p
-  unfolding ends
+  unfolding placesFrom
   placed-first {k} {p} [] x = goes-on places k p [] (x .same) .0
   placed-first {k} {p} (d ∷ ds) x = goes-on places k p _ (x .same) .0
 
   pub placed-next : {k p : ℕ} (d : Drawable) (ds : List Drawable) → Placed places k (d ∷ ds) p → Placed places (k + 1) ds (p + drawableSize d)
-  unfolding ends
+  unfolding placesFrom
   placed-next {k} {p} d ds x = record { same = goes-on places k p _ (x .same) .1 }

@@ -1,5 +1,5 @@
 -- The loop that measures the rows' drawables: at row k, the places stored so far and those of what is left are all the places, and
--- what is left ends where all end.
+-- what is left placesFrom where all end.
 -- Assumes nothing.
 use Prim.Native.Nat.{ℕ, _+_, _-_, _*_, _≤_, _<_}
 use mathlib.Core.Path.{_≡_, refl, sym, ap, _∙_}
@@ -11,17 +11,17 @@ use lib.Seq.{sets}
 use Rattle.xcf_table.specs.Table.{rowAt}
 use Rattle.xcf_drawable.specs.Drawable.{Drawable, drawableSize}
 use Rattle.xcf_grid.specs.Drawn.{pixelSize}
-use Rattle.xcf_body.specs.Rows.{rowDrawable, drawablesFrom}
-use Rattle.xcf_body.specs.Parts.{Ready, ends, endOf}
+use Rattle.xcf_body.specs.Rows.{placesFrom, rowDrawable, drawablesFrom}
+use Rattle.xcf_body.specs.Parts.{Ready, endOf}
 use Rattle.xcf_body.proofs.Drawables.{rest, rowDrawn, PixelsFrom, pixels-taken, drawables-step, drawables-over, drawables-all, pixels-from, pixels-next}
 
-ends-cons : (d : Drawable) (ds : List Drawable) (p : ℕ) → ends (d ∷ ds) p ≡ p ∷ ends ds (p + drawableSize d)
-unfolding ends
-ends-cons d ds p = refl
+places-cons : (d : Drawable) (ds : List Drawable) (p : ℕ) → placesFrom (d ∷ ds) p ≡ p ∷ placesFrom ds (p + drawableSize d)
+unfolding placesFrom
+places-cons d ds p = refl
 
-ends-none : (p : ℕ) → ends [] p ≡ p ∷ []
-unfolding ends
-ends-none p = refl
+places-none : (p : ℕ) → placesFrom [] p ≡ p ∷ []
+unfolding placesFrom
+places-none p = refl
 
 end-cons : (d : Drawable) (ds : List Drawable) (p : ℕ) → endOf (d ∷ ds) p ≡ endOf ds (p + drawableSize d)
 unfolding endOf
@@ -38,7 +38,7 @@ module _ (table names pixels old : List ℕ) (n start : ℕ) where
   pub record Measuring (k at to : ℕ) (places : List ℕ) : Type 0 where
     pub from : PixelsFrom table pixels n k at
     pub end : endOf (rest table n names pixels k at) to ≡ endOf (drawablesFrom table n 0 names pixels) start
-    pub stored : sets places k (ends (rest table n names pixels k at) to) ≡ sets old 0 (ends (drawablesFrom table n 0 names pixels) start)
+    pub stored : sets places k (placesFrom (rest table n names pixels k at) to) ≡ sets old 0 (placesFrom (drawablesFrom table n 0 names pixels) start)
     pub long : length places ≡ 129
     pub most : to ≤ 1100 + 1100000000 * k
 
@@ -62,7 +62,7 @@ module _ (table names pixels old : List ℕ) (n start : ℕ) where
         (record {
           from = pixels-next table names pixels n (g .from) h;
           end = rw e (rw (step, end-cons) at (g .end));
-          stored = rw e (rw (step, ends-cons, sets-cons) at (g .stored));
+          stored = rw e (rw (step, places-cons, sets-cons) at (g .stored));
           long = length-set places k to ∙ g .long;
           most = omega (arith, g .most);
         })
@@ -73,5 +73,5 @@ module _ (table names pixels old : List ℕ) (n start : ℕ) where
     pub measured : n ≤ k → to ≡ endOf (drawablesFrom table n 0 names pixels) start
     measured h = rw (drawables-over table names pixels n k at h, end-none) at (g .end)
 
-    pub all-stored : n ≤ k → set places n to ≡ sets old 0 (ends (drawablesFrom table n 0 names pixels) start)
-    all-stored h = ap (λ (m : ℕ). set places m to) (sym (at-end h)) ∙ (rw (drawables-over table names pixels n k at h, ends-none) at (g .stored))
+    pub all-stored : n ≤ k → set places n to ≡ sets old 0 (placesFrom (drawablesFrom table n 0 names pixels) start)
+    all-stored h = ap (λ (m : ℕ). set places m to) (sym (at-end h)) ∙ (rw (drawables-over table names pixels n k at h, places-none) at (g .stored))

@@ -6,7 +6,7 @@ use lib.ListN.{length, take, drop}
 use Rattle.xcf_table.specs.Table.{rowAt}
 use Rattle.xcf_drawable.specs.Drawable.{Drawable, drawableSize}
 use Rattle.xcf_grid.specs.Drawn.{pixelSize, InRange}
-use Rattle.xcf_body.specs.Rows.{pixelsSize}
+use Rattle.xcf_body.specs.Rows.{pixelsSize, placesFrom}
 
 -- the first n rows of a table in range
 abbrev pub RowsInRange : List ℕ → ℕ → Type 0
@@ -25,15 +25,11 @@ pub record Ready (table names pixels : List ℕ) (n : ℕ) : Type 0 where
   pub named : (k : ℕ) → k < n → rowAt table k .name + rowAt table k .size ≤ length names
   pub whole : length pixels ≡ pixelsSize table n 0
 
--- where drawables begin, one behind the other from p on, and where the last ends
-unfoldable pub ends : List Drawable → ℕ → List ℕ
-ends [] p = p ∷ []
-ends (d ∷ ds) p = p ∷ ends ds (p + drawableSize d)
-
+-- where drawables end, one behind the other from p on
 unfoldable pub endOf : List Drawable → ℕ → ℕ
 endOf [] p = p
 endOf (d ∷ ds) p = endOf ds (p + drawableSize d)
 
 -- a list of places goes on from k with those of drawables that begin at p
 pub record Placed (places : List ℕ) (k : ℕ) (ds : List Drawable) (p : ℕ) : Type 0 where
-  pub same : take (length (ends ds p)) (drop k places) ≡ ends ds p
+  pub same : take (length (placesFrom ds p)) (drop k places) ≡ placesFrom ds p

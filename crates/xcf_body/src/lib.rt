@@ -6,9 +6,9 @@ ghost use lib.Seq.{sets};
 ghost use Rattle.xcf_store.specs.Put.{Put};
 ghost use Rattle.xcf_table.specs.Table.{fileLimit};
 ghost use Rattle.xcf_drawable.specs.Drawable.{drawableSize, drawableBytes};
-ghost use Rattle.xcf_body.specs.Rows.{drawablesBytes, pixelsSize, rowDrawable, drawablesFrom, usedRows};
+ghost use Rattle.xcf_body.specs.Rows.{drawablesBytes, placesFrom, pixelsSize, rowDrawable, drawablesFrom, usedRows};
 ghost use Rattle.xcf_grid.specs.Drawn.{pixelSize, InRange};
-ghost use Rattle.xcf_body.specs.Parts.{RowsInRange, RowReady, Ready, ends, endOf, Placed};
+ghost use Rattle.xcf_body.specs.Parts.{RowsInRange, RowReady, Ready, endOf, Placed};
 use xcf_drawable::measure_drawable;
 use xcf_drawable::put_drawable;
 use xcf_structure::or_zero;
@@ -77,7 +77,7 @@ pub fn measure_rows(
     requires { ⌜ Ready (now table) (now names) (now pixels) n × (start ≤ 1100) ⌝ }
     requires { ⌜ length (now places) ≡ 129 ⌝ }
     ensures { λ r. ⌜ r ≡ endOf (drawablesFrom (now (table .entry)) n 0 (now (names .entry)) (now (pixels .entry))) start ⌝ }
-    ensures { λ _. ⌜ now (places .exit) ≡ sets (now (places .entry)) 0 (ends (drawablesFrom (now (table .entry)) n 0 (now (names .entry)) (now (pixels .entry))) start) ⌝ }
+    ensures { λ _. ⌜ now (places .exit) ≡ sets (now (places .entry)) 0 (placesFrom (drawablesFrom (now (table .entry)) n 0 (now (names .entry)) (now (pixels .entry))) start) ⌝ }
 {
     let mut k: u32 = 0;
     let mut from: usize = 0;

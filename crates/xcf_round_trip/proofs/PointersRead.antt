@@ -12,10 +12,10 @@ use lib.ListN.{length, length-append}
 use Rattle.xcf_read.specs.Image.{pointers}
 use Rattle.xcf_store.specs.Word.{wordBytes, words, when}
 use Rattle.xcf_drawable.specs.Drawable.{Drawable, drawableSize, drawableBytes}
-use Rattle.xcf_body.specs.Rows.{drawablesBytes}
-use Rattle.xcf_write.specs.File.{placesOf}
+use Rattle.xcf_body.specs.Rows.{drawablesBytes, placesFrom}
+use Rattle.xcf_image.specs.Image.{kindPlaces}
 use Rattle.xcf_drawable.proofs.DrawableLength.{drawable-length}
-use Rattle.xcf_round_trip.proofs.Parts.{Stands, Rises}
+use Rattle.xcf_round_trip.proofs.Parts.{Stands, Rises, placesOf}
 use Rattle.xcf_round_trip.proofs.Steps.{Reads, then, then-here, ends, reads-must}
 use Rattle.xcf_round_trip.proofs.WordsRead.{words-rest, reads-number}
 
@@ -50,7 +50,7 @@ rise-when false before p end ps h low here behind = behind
 
 pub places-rise : (kind : ℕ) (ds : List Drawable) (before p end : ℕ) → before < p
     → p + length (drawablesBytes ds p) ≤ end → Rises before (placesOf kind ds p) end
-unfolding Rises placesOf drawablesBytes
+unfolding Rises kindPlaces placesFrom drawablesBytes
 places-rise kind [] before p end h low = tt
 places-rise kind (d ∷ ds) before p end h low =
     let next = p + drawableSize d in

@@ -14,10 +14,10 @@ use Rattle.xcf_grid.specs.Pixels.{tabulate, shown}
 use Rattle.xcf_usable.specs.Usable.{before, rowBefore, seenAt, masked, drawableOk, layerOk, layerFollows, channelOk, maskFollows, channelFollows, allZero, usableRow, usable, badFrom, badRow}
 use Rattle.xcf_store.specs.Word.{wordBytes}
 use Rattle.xcf_structure.specs.Structure.{nameBytes, propertyBytes, drawableProperties, structureBytes, hierarchyBytes, levelBytes}
-use Rattle.xcf_image.specs.Image.{imageProperties, imageBytes}
+use Rattle.xcf_image.specs.Image.{imageProperties, versionOf, kindPlaces, imageBytes}
 use Rattle.xcf_drawable.specs.Drawable.{encodingOf, encodings, starts, structureSize, drawableSize, drawableBytes}
-use Rattle.xcf_body.specs.Rows.{drawablesBytes, usedFrom, pixelsSize, drawablesFrom}
-use Rattle.xcf_write.specs.File.{placesOf, versionOf, imageSize, fileBytes}
+use Rattle.xcf_body.specs.Rows.{drawablesBytes, placesFrom, usedFrom, pixelsSize, drawablesFrom}
+use Rattle.xcf_write.specs.File.{imageSize, fileBytes}
 use Rattle.xcf_write.specs.Answer.{answered, fileOf, rowsRefusal, inputRefusal, writeAnswer, writeOutput, writing}
 use Rattle.xcf_theorems.specs.ExampleFile.{exampleFile, exampleTable}
 use Rattle.xcf_theorems.specs.Statements.{ExampleFileIsWritten}
@@ -30,7 +30,7 @@ unfolding rowAt sideOk typeOk depthOf before rowBefore seenAt masked drawableOk 
 accepted = refl
 
 file : fileOf canvas exampleTable (115 ∷ []) (255 ∷ []) ≡ exampleFile
-unfolding rowAt leading equalBytes copiedBytes firstSegment segmentsWithin segments written writtenAll encodeStream plane planes encodeAll encodeTile tabulate shown activeType masked wordBytes flatMap nameBytes propertyBytes imageProperties drawableProperties structureBytes hierarchyBytes levelBytes encodingOf encodings flatten starts structureSize drawableSize drawableBytes drawablesBytes placesOf versionOf imageBytes imageSize fileBytes usedFrom drawablesFrom fileOf
+unfolding rowAt leading equalBytes copiedBytes firstSegment segmentsWithin segments written writtenAll encodeStream plane planes encodeAll encodeTile tabulate shown activeType masked wordBytes flatMap nameBytes propertyBytes imageProperties drawableProperties structureBytes hierarchyBytes levelBytes encodingOf encodings flatten starts structureSize drawableSize drawableBytes drawablesBytes placesFrom kindPlaces versionOf imageBytes imageSize fileBytes usedFrom drawablesFrom fileOf
 file = refl
 
 pub example-written : ExampleFileIsWritten

@@ -7,21 +7,26 @@ use lib.ListN.{set, getD}
 use Rattle.xcf_parse.specs.Header.{magic, tags}
 use Rattle.xcf_store.proofs.Stores.{put-one, put-append, put-length}
 use Rattle.xcf_store.specs.Word.{words}
-use Rattle.xcf_image.specs.Parts.{kindPlaces, versionFrom}
+use Rattle.xcf_table.specs.declared.Row.{Row}
+use Rattle.xcf_image.specs.Image.{versionOf, kindPlaces}
+use Rattle.xcf_image.specs.Parts.{rowsFrom}
 use Rattle.xcf_store.proofs.Room.{Fits, rest-fits}
 use Rattle.xcf_image.proofs.ImageLength.{version-old-or-new, tag-length}
 use Rattle.xcf_image.proofs.ImageParts.{first-fits, words-fit, layersOn, endOn, byteOn, compressionOn, sidesOn, tagOn, image-parts, image-fits}
 use Rattle.xcf_image.proofs.put_image.Statement.{statement}
 use Rattle.xcf_image.proofs.put_image.Tie as tie
 
+abbrev rows : tie.Start → List Row
+rows s = rowsFrom (s .args .table .now) (s .args .n) 0
+
 abbrev version : tie.Start → ℕ
-version s = versionFrom (s .args .table .now) (s .args .n) 0
+version s = versionOf (rows s)
 
 abbrev layers : tie.Start → List ℕ
-layers s = kindPlaces 1 (s .args .table .now) (s .args .n) 0 (s .args .places .now)
+layers s = kindPlaces 1 (rows s) (s .args .places .now)
 
 abbrev channels : tie.Start → List ℕ
-channels s = kindPlaces 3 (s .args .table .now) (s .args .n) 0 (s .args .places .now)
+channels s = kindPlaces 3 (rows s) (s .args .places .now)
 
 -- from the place behind a part to the place behind the one before it, and to the start
 abbrev magic-start : tie.After-put-bytes → tie.Start
@@ -101,7 +106,7 @@ new-mode-requires c κs = search needs
 put-tag-requires : tie.Need-put-tag-requires
 put-tag-requires c κs =
     let m = c .before .before .before .before in
-    rw (tag-length (version (magic-start m)) (version-old-or-new _ _ _))
+    rw (tag-length (version (magic-start m)) (version-old-or-new _))
     at (first-fits (getD tags (version (magic-start m)) []) _ (tag-fits m))
 
 slice-aggregate-put-words : tie.Need-slice-aggregate-put-words
