@@ -80,21 +80,18 @@ module _ (table names pixels : List ℕ) (n : ℕ) where
     pub row-ready : {size : ℕ} → Ready table names pixels n → size ≡ pixelSize (rowAt table k)
         → RowReady table names k (take (at + size - at) (drop at pixels))
     row-ready r e = record {
-      range = r .range k h;
+      drawn = record {
+        range = r .range k h;
+        whole = rw (pixels-taken pixels at e) (part-length pixels at (pixelSize (rowAt table k)) pixels-inside);
+      };
       named = r .named k h;
-      whole = rw (pixels-taken pixels at e) (part-length pixels at (pixelSize (rowAt table k)) pixels-inside);
     }
 
 -- a row that is ready is writable
 pub row-writable : {table names : List ℕ} {k : ℕ} {pixels : List ℕ} → RowReady table names k pixels → Writable (rowDrawable table names k pixels)
 row-writable {table} {names} {k} x = record {
-  wide = x .range .wide;
-  high = x .range .high;
-  deep = x .range .deep;
-  count = x .range .count;
+  drawn = x .drawn;
   named = part-length names (rowAt table k .name) (rowAt table k .size) (x .named);
-  short = x .range .short;
-  whole = x .whole;
 }
 
 -- row k's drawable, as the code takes it from the table and the names

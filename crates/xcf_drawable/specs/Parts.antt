@@ -5,20 +5,14 @@ use mathlib.Core.List.{List}
 use mathlib.Core.Bool.{Bool}
 use lib.ListN.{length}
 use Rattle.xcf_table.specs.declared.Row.{Row}
-use Rattle.xcf_grid.specs.Grid.{tileCount}
 use Rattle.xcf_table.specs.Table.{fileLimit}
 use Rattle.xcf_drawable.specs.Drawable.{Drawable}
-use Rattle.xcf_grid.specs.Drawn.{pixelSize}
+use Rattle.xcf_grid.specs.Drawn.{Drawn}
 
 -- a drawable with numbers in range, and with the name and the pixels that they say
 pub record Writable (d : Drawable) : Type 0 where
-  pub wide : (1 ≤ d .row .width) × (d .row .width ≤ 16384)
-  pub high : (1 ≤ d .row .height) × (d .row .height ≤ 16384)
-  pub deep : (1 ≤ d .row .depth) × (d .row .depth ≤ 4)
-  pub count : d .row .count ≡ tileCount (d .row .width) (d .row .height)
+  pub drawn : Drawn (d .row) (d .pixels)
   pub named : length (d .name) ≡ d .row .size
-  pub short : d .row .size ≤ 1024
-  pub whole : length (d .pixels) ≡ pixelSize (d .row)
 
 -- room for n bytes from a place on, in the output and in a file
 pub record Space (output : List ℕ) (to n : ℕ) : Type 0 where

@@ -115,10 +115,11 @@ module _ {f : List ℕ} {p : ℕ} (d : Drawable) (x : Readable d) (small : lengt
       → Gives (hierarchy 4 (d .row .width) (d .row .height) depth) f (hierarchyAt d p) (levelAt d p + 8)
   reads-levels depth same =
       let rise = tiles-rise d (tilesAt d p) (length f) w (omega arith) (tiles-stand d s .inside) in
-      let count = starts-length (tilesOf d) (tilesAt d p) ∙ tiles-counted d ∙ w .count in
+      let range = w .drawn .range in
+      let count = starts-length (tilesOf d) (tilesAt d p) ∙ tiles-counted d ∙ range .count in
       let inside : levelAt d p ≤ length f = omega (arith, level-stands d s .inside) in
       rw (← same)
-      (reads-hierarchy (d .row) (levelAt d p) _ small (w .wide .1) (w .high .1) (w .deep .1) count rise (omega arith) inside
+      (reads-hierarchy (d .row) (levelAt d p) _ small (range .wide .1) (range .high .1) (range .deep .1) count rise (omega arith) inside
       (stands-front (hierarchyOf d p) _ (behind-structure d s)) (level-stands d s))
 
   -- a mask or channel
@@ -126,7 +127,7 @@ module _ {f : List ℕ} {p : ℕ} (d : Drawable) (x : Readable d) (small : lengt
     channel-row : channelRow (ownerOf (d .row)) (fieldsOf d (p + sidesSize (d .row)) (hierarchyAt d p)) (levelAt d p + 8)
         ≡ readRow d p
     unfolding channelRow readRow
-    channel-row = rw (channel-flags (d .row) (d .hasMask) facts, facts .depth, facts .form, facts .mode, w .count, w .named)
+    channel-row = rw (channel-flags (d .row) (d .hasMask) facts, facts .depth, facts .form, facts .mode, w .drawn .range .count, w .named)
 
     reads-owned : (rows : Rows) → Gives (channelRows 4 (ownerOf (d .row)) rows) f p (addRow rows (readRow d p))
     unfolding channelRows
@@ -144,7 +145,7 @@ module _ {f : List ℕ} {p : ℕ} (d : Drawable) (x : Readable d) (small : lengt
     unfolding layerRow readRow
     layer-row =
         let flags = layer-flags (d .row) (d .hasMask) (p + drawableSize d) facts (omega arith) in
-        rw (flags, facts .kind, facts .depth, facts .owner, w .count, w .named)
+        rw (flags, facts .kind, facts .depth, facts .owner, w .drawn .range .count, w .named)
 
     reads-layered : {all : Rows} → ((q : ℕ) → Gives (maskRows 4 (layerAt d p) (rows .count) (addRow rows (readRow d p))) f q all)
         → Gives (layerRows 4 c rows) f p all

@@ -170,9 +170,11 @@ module _ (c : Canvas) (table names pixels : List ℕ) (low : (i : ℕ) → getD 
       record {
         writable =
             row-writable (record {
-              range = rows .range k h;
+              drawn = record {
+                range = rows .range k h;
+                whole = part-length pixels (pixelsSize table k 0) (pixelSize (rowAt table k)) (omega (arith, within, a .whole));
+              };
               named = rows .named k h;
-              whole = part-length pixels (pixelsSize table k 0) (pixelSize (rowAt table k)) (omega (arith, within, a .whole));
             });
         listed = record {
           opaque = used-facts c (length names) table (a .usable) k h .opaque;

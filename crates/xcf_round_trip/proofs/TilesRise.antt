@@ -47,12 +47,6 @@ encodings-rise {r} {pixels} x (suc n) t before q end count above inside =
     let next = q + length (encodingOf r t pixels) in
     (above, (omega arith, encodings-rise x n (t + 1) q next end (omega arith) (omega arith) (omega arith)))
 
-pub writable-drawn : {d : Drawable} → Writable d → Drawn (d .row) (d .pixels)
-writable-drawn w = record {
-  range = record { wide = w .wide; high = w .high; deep = w .deep; count = w .count; short = w .short };
-  whole = w .whole;
-}
-
 pub tiles-rise : (d : Drawable) (q end : ℕ) → Writable d → 0 < q → q + length (flatten (tilesOf d)) ≤ end
     → Rises 0 (starts (tilesOf d) q) end
-tiles-rise d q end w some inside = encodings-rise (writable-drawn w) (d .row .count) 0 0 q end (omega arith) some inside
+tiles-rise d q end w some inside = encodings-rise (w .drawn) (d .row .count) 0 0 q end (omega arith) some inside

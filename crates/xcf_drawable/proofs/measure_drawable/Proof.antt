@@ -1,7 +1,7 @@
 -- `measure_drawable` meets its contract: the drawable's length is its parts' (`drawable-size`), and its tiles are few.
 use native.Mathlib.Omega.{arith}
 use borrow.Author.Needs.{needs}
-use Rattle.xcf_grid.proofs.FewTiles.{few-tiles}
+use Rattle.xcf_drawable.proofs.EncodingBound.{few}
 use Rattle.xcf_drawable.proofs.DrawablePut.{drawable-size}
 use Rattle.xcf_drawable.proofs.measure_drawable.Statement.{statement}
 use Rattle.xcf_drawable.proofs.measure_drawable.Tie as tie
@@ -38,7 +38,7 @@ returns c =
     let structure = c .before .before .structure-size .ensures in
     let tiles = c .before .measure-tiles .ensures in (
       omega (arith, drawable-size (a .row) (a .masked) (a .name .now) (a .pixels .now), structure .0, tiles .0),
-      omega (arith, structure .1, tiles .1, w .count, few-tiles (a .row .width) (a .row .height) (w .wide .1) (w .high .1)),
+      omega (arith, structure .1, tiles .1, few (w .drawn .range)),
     )
 
 pub measure-drawable-spec : {M : Type 1} → statement M
