@@ -14,6 +14,7 @@ use lib.Dec.{eqb}
 use lib.ListN.{length, getD, drop, length-append}
 use lib.Seq.{drop-drop}
 use Rattle.xcf_laws.proofs.Cases.{below-or, by-cases}
+use Rattle.xcf_store.specs.Word.{part}
 use Rattle.xcf_store.proofs.Parts.{part-length}
 use Rattle.xcf_table.specs.declared.Row.{Row}
 use Rattle.xcf_table.specs.Table.{rowSize, tableSize, rowAt}
@@ -26,20 +27,23 @@ use Rattle.xcf_usable.proofs.Counts.{before-next}
 use Rattle.xcf_usable.proofs.Order.{first-not-mask, mask-behind, after-channel, few-layers, few-channels}
 use Rattle.xcf_drawable.specs.Drawable.{Drawable}
 use Rattle.xcf_write.specs.File.{rowsOf}
-use Rattle.xcf_body.specs.Rows.{usedFrom, pixelsSize, drawablesFrom, usedRows}
+use Rattle.xcf_body.specs.Rows.{usedFrom, pixelsSize, rowDrawable, drawablesFrom, usedRows}
 use Rattle.xcf_grid.specs.Drawn.{pixelSize}
 use Rattle.xcf_image.specs.Image.{kindPlaces}
 use Rattle.xcf_image.specs.Parts.{rowsFrom}
 use Rattle.xcf_image.proofs.ImageLength.{kind-length}
 use Rattle.xcf_image.proofs.RowsLoop.{one-when}
-use Rattle.xcf_body.proofs.Drawables.{rowDrawn, row-writable}
+use Rattle.xcf_body.proofs.Drawables.{row-writable}
 use Rattle.xcf_write.proofs.RowsUsed.{used-most, used-kind, used-facts, ready}
 use Rattle.xcf_write.proofs.FileLaws.{rows-length, rows-are}
 use Rattle.xcf_write.proofs.Accepted.{InputAccepted}
 use Rattle.xcf_round_trip.proofs.Parts.{placesOf}
 use Rattle.xcf_round_trip.proofs.DrawableRead.{Readable}
 
--- row k's drawable, and those of the used rows
+-- row k's drawable where its pixels begin at a place, as it is, and those of the used rows
+abbrev rowDrawn : List ℕ → List ℕ → List ℕ → ℕ → ℕ → Drawable
+rowDrawn table names pixels k at = rowDrawable table names k (part pixels at (pixelSize (rowAt table k)))
+
 abbrev pub drawableOf : List ℕ → List ℕ → List ℕ → ℕ → Drawable
 drawableOf table names pixels k = rowDrawn table names pixels k (pixelsSize table k 0)
 
