@@ -109,8 +109,8 @@ pub fn put_image(
 {
     let magic = put_bytes(output, 0, &MAGIC);
     let tag = put_tag(output, magic, new_mode(table, n));
-    let sides = put_words(output, tag, &[canvas.width, canvas.height, canvas.base]);
-    let compression = put_words(output, sides, &[17, 1]);
+    let words = [canvas.width, canvas.height, canvas.base, 17, 1];
+    let compression = put_words(output, tag, &words);
     output[compression] = 1;
     let list = put_words(output, compression + 1, &[0, 0]);
     let layers = put_pointers(output, list, table, n, 1, places);

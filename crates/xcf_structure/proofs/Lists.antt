@@ -42,20 +42,24 @@ unfolding flatMap propertyBytes wordBytes
 layer-words a b c = refl
 
 -- the list as it is stored: from a part on to its end
-abbrev pub layerOn : Row → List ℕ
-layerOn r = words (when (isLayer r) (7 ∷ 4 ∷ r .mode ∷ 15 ∷ 8 ∷ r .dx ∷ r .dy ∷ [])) ++ words (0 ∷ 0 ∷ [])
+module _ (r : Row) (hasMask : Bool) where
+  abbrev pub endOn : List ℕ
+  endOn = words (0 ∷ 0 ∷ [])
 
-abbrev pub applyOn : Row → Bool → List ℕ
-applyOn r hasMask = words (when hasMask (11 ∷ 4 ∷ apply r ∷ [])) ++ layerOn r
+  abbrev pub layerOn : List ℕ
+  layerOn = words (when (isLayer r) (7 ∷ 4 ∷ r .mode ∷ 15 ∷ 8 ∷ r .dx ∷ r .dy ∷ [])) ++ endOn
 
-abbrev pub shownOn : Row → Bool → List ℕ
-shownOn r hasMask = words (6 ∷ 4 ∷ r .opacity ∷ 8 ∷ 4 ∷ visible r ∷ []) ++ applyOn r hasMask
+  abbrev pub applyOn : List ℕ
+  applyOn = words (when hasMask (11 ∷ 4 ∷ apply r ∷ [])) ++ layerOn
 
-abbrev pub activeOn : Row → Bool → List ℕ
-activeOn r hasMask = words (when (eqb (active r) 1) (activeType (r .kind) ∷ 0 ∷ [])) ++ shownOn r hasMask
+  abbrev pub shownOn : List ℕ
+  shownOn = words (6 ∷ 4 ∷ r .opacity ∷ 8 ∷ 4 ∷ visible r ∷ []) ++ applyOn
 
-abbrev pub selectionOn : Row → Bool → List ℕ
-selectionOn r hasMask = words (when (eqb (selection r) 1) (4 ∷ 0 ∷ [])) ++ activeOn r hasMask
+  abbrev pub activeOn : List ℕ
+  activeOn = words (when (eqb (active r) 1) (activeType (r .kind) ∷ 0 ∷ [])) ++ shownOn
+
+  abbrev pub selectionOn : List ℕ
+  selectionOn = words (when (eqb (selection r) 1) (4 ∷ 0 ∷ [])) ++ activeOn
 
 pub list-words : (r : Row) (hasMask : Bool) → listBytes (drawableProperties r hasMask) ≡ selectionOn r hasMask
 unfolding drawableProperties

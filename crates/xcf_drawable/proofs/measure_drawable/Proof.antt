@@ -6,6 +6,10 @@ use Rattle.xcf_drawable.proofs.DrawablePut.{drawable-size}
 use Rattle.xcf_drawable.proofs.measure_drawable.Statement.{statement}
 use Rattle.xcf_drawable.proofs.measure_drawable.Tie as tie
 
+-- from the place behind the tiles' length to the start
+abbrev begin : tie.After-measure-tiles → tie.Start
+begin c = c .before .before .before .before
+
 structure-size-requires : tie.Need-structure-size-requires
 structure-size-requires c κs = search needs
 
@@ -32,7 +36,7 @@ add-result-4 c = search needs
 
 returns : tie.Need-returns
 returns c =
-    let start = c .before .before .before .before .before in
+    let start = begin (c .before) in
     let a = start .args in
     let w = start .pre in
     let structure = c .before .before .structure-size .ensures in

@@ -23,6 +23,9 @@ turn c = c .before .before .before
 abbrev head : tie.Then1 Inv-loop μ-loop → tie.At-loop Inv-loop μ-loop
 head c = c .before .before
 
+abbrev start : tie.Else1 Inv-loop μ-loop → tie.Start Inv-loop μ-loop
+start c = c .before .before .before .before .before .before
+
 abbrev begin : tie.Then1 Inv-loop μ-loop → tie.Start Inv-loop μ-loop
 begin c = head c .before .before .before .before
 
@@ -57,14 +60,14 @@ loop-again c =
     (next e, (e .encode-one .ensures .1, put-length (e .encode-one .ensures .0) ∙ head (turn e) .loop .inv .1 .1))
 
 same-length : tie.Need-same-length Inv-loop μ-loop
-same-length c = omega (arith, c .before .before .loop .inv .1 .0, c .before .before .before .before .before .before .pre .1 .0)
+same-length c = omega (arith, c .before .before .loop .inv .1 .0, start c .pre .1 .0)
 
 same-length-2 : tie.Need-same-length-2 Inv-loop μ-loop
-same-length-2 c = omega (arith, c .before .before .loop .inv .1 .1, c .before .before .before .before .before .before .pre .1 .1)
+same-length-2 c = omega (arith, c .before .before .loop .inv .1 .1, start c .pre .1 .1)
 
 returns : tie.Need-returns Inv-loop μ-loop
 returns c =
-    let d = c .before .before .before .before .before .before .pre .0 in
+    let d = start c .pre .0 in
     let i = c .before .before .loop .inv in
     ((measuring-over (i .0) (c .if1 .left), measuring-small (i .0) d), i .1)
 

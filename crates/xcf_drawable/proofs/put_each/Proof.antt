@@ -27,6 +27,9 @@ turn c = c .before .before
 abbrev head : tie.Then1 Inv-loop μ-loop → tie.At-loop Inv-loop μ-loop
 head c = c .before .before
 
+abbrev start : tie.Else1 Inv-loop μ-loop → tie.Start Inv-loop μ-loop
+start c = c .before .before .before .before .before .before
+
 abbrev begin : tie.Then1 Inv-loop μ-loop → tie.Start Inv-loop μ-loop
 begin c = head c .before .before .before .before
 
@@ -92,7 +95,7 @@ same-length : tie.Need-same-length Inv-loop μ-loop
 same-length c = c .before .before .loop .inv .0 .same
 
 same-length-2 : tie.Need-same-length-2 Inv-loop μ-loop
-same-length-2 c = omega (arith, c .before .before .loop .inv .1, c .before .before .before .before .before .before .pre .0 .1)
+same-length-2 c = omega (arith, c .before .before .loop .inv .1, start c .pre .0 .1)
 
 returns : tie.Need-returns Inv-loop μ-loop
 returns c =
