@@ -26,18 +26,17 @@ turn c = c .before
 abbrev head : tie.In-loop Inv-loop μ-loop → tie.At-loop Inv-loop μ-loop
 head c = c .before
 
-abbrev begin : tie.In-loop Inv-loop μ-loop → tie.Start Inv-loop μ-loop
-begin c = head c .before .before .before .before .before
+abbrev entry : tie.After-slice-known Inv-loop μ-loop → tie.Start Inv-loop μ-loop
+entry c = c .before .before .before .before
 
-abbrev start : tie.After-loop Inv-loop μ-loop → tie.Start Inv-loop μ-loop
-start c = c .before .before .before .before .before .before
+abbrev begin : tie.At-loop Inv-loop μ-loop → tie.Start Inv-loop μ-loop
+begin c = entry (c .before)
 
 loop-holds : tie.Need-loop-holds Inv-loop μ-loop
-loop-holds c =
-    let p = c .before .before .before .before .pre in measuring-first _ _ _ _ _ _ (p .0 .1) (p .1)
+loop-holds c = let p = entry c .pre in measuring-first _ _ _ _ _ _ (p .0 .1) (p .1)
 
 pixels-end-requires : tie.Need-pixels-end-requires Inv-loop μ-loop
-pixels-end-requires c κs = row-asked _ _ _ _ _ (head c .loop .inv .rows) (c .loop-test .taken) (begin c .pre .0 .0)
+pixels-end-requires c κs = row-asked _ _ _ _ _ (head c .loop .inv .rows) (c .loop-test .taken) (begin (head c) .pre .0 .0)
 
 cast-places : tie.Need-cast-places Inv-loop μ-loop
 cast-places c = search needs
@@ -46,7 +45,7 @@ mul-places : tie.Need-mul-places Inv-loop μ-loop
 mul-places c = omega arith
 
 slice-write-places : tie.Need-slice-write-places Inv-loop μ-loop
-slice-write-places c = let t = turn c in omega (arith, head t .loop .inv .long, t .loop-test .taken, begin t .pre .0 .0 .few)
+slice-write-places c = let t = turn c in omega (arith, head t .loop .inv .long, t .loop-test .taken, begin (head t) .pre .0 .0 .few)
 
 sub-measure-row : tie.Need-sub-measure-row Inv-loop μ-loop
 sub-measure-row c = omega (arith, c .pixels-end .ensures .0)
@@ -57,13 +56,13 @@ part-measure-row-start c = omega (arith, c .pixels-end .ensures .0)
 part-measure-row-end : tie.Need-part-measure-row-end Inv-loop μ-loop
 part-measure-row-end c =
     let t = turn c in
-    row-lent _ _ _ _ _ (head t .loop .inv .rows) (t .loop-test .taken) (c .pixels-end .ensures .0) (begin t .pre .0 .0)
+    row-lent _ _ _ _ _ (head t .loop .inv .rows) (t .loop-test .taken) (c .pixels-end .ensures .0) (begin (head t) .pre .0 .0)
 
 measure-row-requires : tie.Need-measure-row-requires Inv-loop μ-loop
 measure-row-requires c κs =
     let e = c .before in
     let t = turn e in
-    let r = begin t .pre .0 .0 in (
+    let r = begin (head t) .pre .0 .0 in (
       row-ready _ _ _ _ _ (head t .loop .inv .rows) (t .loop-test .taken) (e .pixels-end .ensures .0) r,
       omega (arith, t .loop-test .taken, r .few),
     )
@@ -71,12 +70,12 @@ measure-row-requires c κs =
 add-to : tie.Need-add-to Inv-loop μ-loop
 add-to c =
     let t = turn (found c) in
-    omega (arith, c .measure-row .ensures .1, head t .loop .inv .most, t .loop-test .taken, begin t .pre .0 .0 .few)
+    omega (arith, c .measure-row .ensures .1, head t .loop .inv .most, t .loop-test .taken, begin (head t) .pre .0 .0 .few)
 
 add-k : tie.Need-add-k Inv-loop μ-loop
 add-k c =
     let t = turn (found c) in
-    omega (arith, t .loop-test .taken, begin t .pre .0 .0 .few)
+    omega (arith, t .loop-test .taken, begin (head t) .pre .0 .0 .few)
 
 loop-less : tie.Need-loop-less Inv-loop μ-loop
 loop-less c = omega (arith, turn (found c) .loop-test .taken)
@@ -92,10 +91,10 @@ mul-places-2 : tie.Need-mul-places-2 Inv-loop μ-loop
 mul-places-2 c = omega arith
 
 slice-write-places-2 : tie.Need-slice-write-places-2 Inv-loop μ-loop
-slice-write-places-2 c = omega (arith, c .before .loop .inv .long, start c .pre .0 .0 .few)
+slice-write-places-2 c = omega (arith, c .before .loop .inv .long, begin (c .before) .pre .0 .0 .few)
 
 same-length : tie.Need-same-length Inv-loop μ-loop
-same-length c = length-set (c .before .loop .places) _ _ ∙ omega (arith, c .before .loop .inv .long, start c .pre .1)
+same-length c = length-set (c .before .loop .places) _ _ ∙ omega (arith, c .before .loop .inv .long, begin (c .before) .pre .1)
 
 returns : tie.Need-returns Inv-loop μ-loop
 returns c =

@@ -27,17 +27,17 @@ turn c = c .before
 abbrev head : tie.In-loop Inv-loop μ-loop → tie.At-loop Inv-loop μ-loop
 head c = c .before
 
-abbrev begin : tie.In-loop Inv-loop μ-loop → tie.Start Inv-loop μ-loop
-begin c = head c .before .before .before .before .before .before
+abbrev entry : tie.After-shared-slice-known4 Inv-loop μ-loop → tie.Start Inv-loop μ-loop
+entry c = c .before .before .before .before .before
 
-abbrev first : tie.After-shared-slice-known4 Inv-loop μ-loop → tie.Start Inv-loop μ-loop
-first c = c .before .before .before .before .before
+abbrev begin : tie.At-loop Inv-loop μ-loop → tie.Start Inv-loop μ-loop
+begin c = entry (c .before)
 
 loop-holds : tie.Need-loop-holds Inv-loop μ-loop
-loop-holds c = putting-first _ _ _ _ _ _ _ (first c .pre .1 .0)
+loop-holds c = putting-first _ _ _ _ _ _ _ (entry c .pre .1 .0)
 
 pixels-end-requires : tie.Need-pixels-end-requires Inv-loop μ-loop
-pixels-end-requires c κs = row-asked _ _ _ _ _ (head c .loop .inv .rows) (c .loop-test .taken) (begin c .pre .0 .0)
+pixels-end-requires c κs = row-asked _ _ _ _ _ (head c .loop .inv .rows) (c .loop-test .taken) (begin (head c) .pre .0 .0)
 
 cast-next : tie.Need-cast-next Inv-loop μ-loop
 cast-next c = search needs
@@ -49,7 +49,7 @@ mul-next : tie.Need-mul-next Inv-loop μ-loop
 mul-next c = omega arith
 
 shared-slice-read-next : tie.Need-shared-slice-read-next Inv-loop μ-loop
-shared-slice-read-next c = let t = turn (c .before) in omega (arith, begin t .pre .0, t .loop-test .taken, begin t .pre .0 .0 .few)
+shared-slice-read-next c = let t = turn (c .before) in omega (arith, begin (head t) .pre .0, t .loop-test .taken, begin (head t) .pre .0 .0 .few)
 
 sub-put-row : tie.Need-sub-put-row Inv-loop μ-loop
 sub-put-row c = omega (arith, c .before .before .pixels-end .ensures .0)
@@ -61,7 +61,7 @@ part-put-row-end : tie.Need-part-put-row-end Inv-loop μ-loop
 part-put-row-end c =
     let e = c .before .before in
     let t = turn e in
-    row-lent _ _ _ _ _ (head t .loop .inv .rows) (t .loop-test .taken) (e .pixels-end .ensures .0) (begin t .pre .0 .0)
+    row-lent _ _ _ _ _ (head t .loop .inv .rows) (t .loop-test .taken) (e .pixels-end .ensures .0) (begin (head t) .pre .0 .0)
 
 put-row-requires : tie.Need-put-row-requires Inv-loop μ-loop
 put-row-requires c κs =
@@ -69,7 +69,7 @@ put-row-requires c κs =
     let e = f .pixels-end .ensures .0 in
     let t = turn f in
     let i = head t .loop .inv in
-    let p = begin t .pre in
+    let p = begin (head t) .pre in
     let place = next-place _ _ _ _ _ _ _ i (t .loop-test .taken) e in
     let most = row-room _ _ _ _ _ (i .rows) (t .loop-test .taken) e in (
       (row-ready _ _ _ _ _ (i .rows) (t .loop-test .taken) e (p .0 .0), omega (arith, t .loop-test .taken, p .0 .0 .few)),
@@ -79,7 +79,7 @@ put-row-requires c κs =
 add-k : tie.Need-add-k Inv-loop μ-loop
 add-k c =
     let t = turn (found (row c)) in
-    omega (arith, t .loop-test .taken, begin t .pre .0 .0 .few)
+    omega (arith, t .loop-test .taken, begin (head t) .pre .0 .0 .few)
 
 loop-less : tie.Need-loop-less Inv-loop μ-loop
 loop-less c = omega (arith, turn (found (row c)) .loop-test .taken)
