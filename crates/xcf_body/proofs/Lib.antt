@@ -1,4 +1,5 @@
 pub mod RowsLoop
 pub mod Drawables
+pub mod RowsLeft
 pub mod RowsMeasured
 pub mod RowsStored

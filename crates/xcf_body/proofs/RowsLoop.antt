@@ -39,24 +39,27 @@ pub used-all : {table : List ℕ} {k : ℕ} → UsedLeft table k → tableRows �
 unfolding usedFrom
 used-all {k} g h = omega (arith, rw (rest-empty tableRows k h) at (g .rest))
 
--- the pixels of the rows before row k
-pub record PixelsLeft (table : List ℕ) (n k size : ℕ) : Type 0 where
+-- the pixels of the rows before row k end at a place
+pub record PixelsLeft (table : List ℕ) (n k at : ℕ) : Type 0 where
   pub few : k ≤ n
-  pub most : size ≤ 1073741824 * k
-  pub rest : size + pixelsSize table (n - k) k ≡ pixelsSize table n 0
+  pub most : at ≤ 1073741824 * k
+  pub rest : at + pixelsSize table (n - k) k ≡ pixelsSize table n 0
 
 pub pixels-first : (table : List ℕ) (n : ℕ) → PixelsLeft table n 0 0
 pixels-first table n = record { few = omega arith; most = omega arith; rest = rw (sub-zero, zero-add) }
 
-pub pixels-next : {table : List ℕ} {n k size r : ℕ} → PixelsLeft table n k size → k < n → r ≡ pixelSize (rowAt table k) → r ≤ 1073741824
-    → PixelsLeft table n (k + 1) (size + r)
-unfolding pixelsSize
-pixels-next {n} {k} g h e l = record {
-  few = omega arith;
-  most = omega (arith, g .most);
-  rest = omega (arith, rw (rest-begins n k h) at (g .rest), e);
-}
+-- and with row k's at another
+module _ {table : List ℕ} {n k at end : ℕ} (g : PixelsLeft table n k at) (h : k < n) (e : end ≡ at + pixelSize (rowAt table k)) where
+  pixels-step : end + pixelsSize table (n - (k + 1)) (k + 1) ≡ pixelsSize table n 0
+  unfolding pixelsSize
+  pixels-step = omega (arith, rw (rest-begins n k h) at (g .rest), e)
 
-pub pixels-over : {table : List ℕ} {n k size : ℕ} → PixelsLeft table n k size → n ≤ k → size ≡ pixelsSize table n 0
+  pub pixels-inside : end ≤ pixelsSize table n 0
+  pixels-inside = omega (arith, pixels-step)
+
+  pub pixels-next : end ≤ 1073741824 * (k + 1) → PixelsLeft table n (k + 1) end
+  pixels-next l = record { few = omega arith; most = l; rest = pixels-step }
+
+pub pixels-over : {table : List ℕ} {n k at : ℕ} → PixelsLeft table n k at → n ≤ k → at ≡ pixelsSize table n 0
 unfolding pixelsSize
 pixels-over {n} {k} g h = omega (arith, rw (rest-empty n k h) at (g .rest))

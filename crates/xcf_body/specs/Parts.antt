@@ -5,18 +5,17 @@ use mathlib.Core.List.{List, [], _∷_}
 use lib.ListN.{length, take, drop}
 use Rattle.xcf_table.specs.Table.{rowAt}
 use Rattle.xcf_drawable.specs.Drawable.{Drawable, drawableSize}
-use Rattle.xcf_grid.specs.Drawn.{pixelSize, InRange}
-use Rattle.xcf_body.specs.Rows.{pixelsSize}
+use Rattle.xcf_grid.specs.Drawn.{InRange, Drawn}
+use Rattle.xcf_body.specs.Rows.{pixelsSize, placesFrom}
 
 -- the first n rows of a table in range
 abbrev pub RowsInRange : List ℕ → ℕ → Type 0
 RowsInRange table n = (k : ℕ) → k < n → InRange (rowAt table k)
 
--- row k of a table in range, with its name among the names, and its pixels
+-- row k of a table in range, with its pixels, and with its name among the names
 pub record RowReady (table names : List ℕ) (k : ℕ) (pixels : List ℕ) : Type 0 where
-  pub range : InRange (rowAt table k)
+  pub drawn : Drawn (rowAt table k) pixels
   pub named : rowAt table k .name + rowAt table k .size ≤ length names
-  pub whole : length pixels ≡ pixelSize (rowAt table k)
 
 -- the first n rows in range, with their names among the names, and the pixels of all of them
 pub record Ready (table names pixels : List ℕ) (n : ℕ) : Type 0 where
@@ -25,15 +24,11 @@ pub record Ready (table names pixels : List ℕ) (n : ℕ) : Type 0 where
   pub named : (k : ℕ) → k < n → rowAt table k .name + rowAt table k .size ≤ length names
   pub whole : length pixels ≡ pixelsSize table n 0
 
--- where drawables begin, one behind the other from p on, and where the last ends
-unfoldable pub ends : List Drawable → ℕ → List ℕ
-ends [] p = p ∷ []
-ends (d ∷ ds) p = p ∷ ends ds (p + drawableSize d)
-
+-- where drawables end, one behind the other from p on
 unfoldable pub endOf : List Drawable → ℕ → ℕ
 endOf [] p = p
 endOf (d ∷ ds) p = endOf ds (p + drawableSize d)
 
 -- a list of places goes on from k with those of drawables that begin at p
 pub record Placed (places : List ℕ) (k : ℕ) (ds : List Drawable) (p : ℕ) : Type 0 where
-  pub same : take (length (ends ds p)) (drop k places) ≡ ends ds p
+  pub same : take (length (placesFrom ds p)) (drop k places) ≡ placesFrom ds p

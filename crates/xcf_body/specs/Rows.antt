@@ -14,6 +14,11 @@ unfoldable pub drawablesBytes : List Drawable → ℕ → List ℕ
 drawablesBytes [] p = []
 drawablesBytes (d ∷ ds) p = drawableBytes d p ++ drawablesBytes ds (p + drawableSize d)
 
+-- where each of them begins, and where the last ends
+unfoldable pub placesFrom : List Drawable → ℕ → List ℕ
+placesFrom [] p = p ∷ []
+placesFrom (d ∷ ds) p = p ∷ placesFrom ds (p + drawableSize d)
+
 -- how many of at most n rows from row k on come before the first unused one
 unfoldable pub usedFrom : List ℕ → ℕ → ℕ → ℕ
 usedFrom table zero k = 0

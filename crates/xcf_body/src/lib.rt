@@ -1,14 +1,14 @@
 // The used rows of a table: counted, measured and stored.
 ghost use mathlib.Core.Path.{_≡_};
-ghost use Prim.Native.Nat.{_+_, _≤_, _<_};
+ghost use Prim.Native.Nat.{_+_, _*_, _≤_, _<_};
 ghost use lib.ListN.{length};
 ghost use lib.Seq.{sets};
 ghost use Rattle.xcf_store.specs.Put.{Put};
-ghost use Rattle.xcf_table.specs.Table.{fileLimit};
+ghost use Rattle.xcf_table.specs.Table.{rowAt, fileLimit};
 ghost use Rattle.xcf_drawable.specs.Drawable.{drawableSize, drawableBytes};
-ghost use Rattle.xcf_body.specs.Rows.{drawablesBytes, pixelsSize, rowDrawable, drawablesFrom, usedRows};
+ghost use Rattle.xcf_body.specs.Rows.{drawablesBytes, placesFrom, pixelsSize, rowDrawable, drawablesFrom, usedRows};
 ghost use Rattle.xcf_grid.specs.Drawn.{pixelSize, InRange};
-ghost use Rattle.xcf_body.specs.Parts.{RowsInRange, RowReady, Ready, ends, endOf, Placed};
+ghost use Rattle.xcf_body.specs.Parts.{RowsInRange, RowReady, Ready, endOf, Placed};
 use xcf_drawable::measure_drawable;
 use xcf_drawable::put_drawable;
 use xcf_structure::or_zero;
@@ -40,6 +40,14 @@ fn pixel_size(row: Row) -> usize
     row.width as usize * row.height as usize * row.depth as usize
 }
 
+// Where the pixels of row k end, which begin at `from`; a row has at most 1,073,741,824 bytes of them.
+fn pixels_end(table: &[u32], k: u32, from: usize) -> usize
+    requires { ⌜ InRange (rowAt (now table) k) × ((k < 128) × (from ≤ 1073741824 * k)) ⌝ }
+    ensures { λ r. ⌜ (r ≡ from + pixelSize (rowAt (now (table .entry)) k)) × (r ≤ 1073741824 * (k + 1)) ⌝ }
+{
+    from + pixel_size(row_at(table, k))
+}
+
 // How many bytes of pixels the first n rows have.
 pub fn pixels_size(table: &[u32], n: u32) -> usize
     requires { ⌜ (n ≤ 128) × RowsInRange (now table) n ⌝ }
@@ -48,7 +56,7 @@ pub fn pixels_size(table: &[u32], n: u32) -> usize
     let mut k: u32 = 0;
     let mut size: usize = 0;
     while k < n {
-        size += pixel_size(row_at(table, k));
+        size = pixels_end(table, k, size);
         k += 1;
     }
     size
@@ -77,13 +85,13 @@ pub fn measure_rows(
     requires { ⌜ Ready (now table) (now names) (now pixels) n × (start ≤ 1100) ⌝ }
     requires { ⌜ length (now places) ≡ 129 ⌝ }
     ensures { λ r. ⌜ r ≡ endOf (drawablesFrom (now (table .entry)) n 0 (now (names .entry)) (now (pixels .entry))) start ⌝ }
-    ensures { λ _. ⌜ now (places .exit) ≡ sets (now (places .entry)) 0 (ends (drawablesFrom (now (table .entry)) n 0 (now (names .entry)) (now (pixels .entry))) start) ⌝ }
+    ensures { λ _. ⌜ now (places .exit) ≡ sets (now (places .entry)) 0 (placesFrom (drawablesFrom (now (table .entry)) n 0 (now (names .entry)) (now (pixels .entry))) start) ⌝ }
 {
     let mut k: u32 = 0;
     let mut from: usize = 0;
     let mut to = start;
     while k < n {
-        let end = from + pixel_size(row_at(table, k));
+        let end = pixels_end(table, k, from);
         places[k as usize] = to;
         to += measure_row(table, k, names, &pixels[from..end]);
         from = end;
@@ -143,7 +151,7 @@ pub fn put_rows(
     let mut at: usize = 0;
     let mut to = start;
     while k < n {
-        let end = at + pixel_size(row_at(table, k));
+        let end = pixels_end(table, k, at);
         let next = places[k as usize + 1];
         to = put_row(output, to, next, table, k, names, &pixels[at..end]);
         at = end;

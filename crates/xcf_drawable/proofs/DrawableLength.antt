@@ -19,7 +19,6 @@ encodings-count zero t r pixels = refl
 encodings-count (suc n) t r pixels = ap suc (encodings-count n (t + 1) r pixels)
 
 pub tiles-counted : (d : Drawable) → length (tilesOf d) ≡ d .row .count
-unfolding tilesOf
 tiles-counted d = encodings-count _ 0 _ _
 
 pub starts-length : (xss : List (List ℕ)) (p : ℕ) → length (starts xss p) ≡ length xss

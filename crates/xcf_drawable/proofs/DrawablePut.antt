@@ -4,7 +4,7 @@
 -- Assumes nothing.
 use Prim.Native.Nat.{ℕ, _+_, _≤_}
 use mathlib.Core.Path.{_≡_, refl, _∙_}
-use mathlib.Core.List.{List, [], _∷_, _++_}
+use mathlib.Core.List.{List, [], _∷_, _++_, flatten}
 use mathlib.Core.Bool.{Bool, true, false, cond}
 use native.Mathlib.Omega.{arith}
 use lib.ListN.{length}
@@ -14,7 +14,7 @@ use Rattle.xcf_store.specs.Put.{Put}
 use Rattle.xcf_store.proofs.Stores.{put-append, put-length}
 use Rattle.xcf_store.specs.Word.{words}
 use Rattle.xcf_structure.specs.Structure.{structureBytes, hierarchyBytes, levelBytes}
-use Rattle.xcf_drawable.specs.Drawable.{encodings, joined, starts, levelSize, tilesOf, structureSize, drawableSize, drawableBytes}
+use Rattle.xcf_drawable.specs.Drawable.{rowTiles, starts, levelSize, structureSize, drawableSize, drawableBytes}
 use Rattle.xcf_drawable.specs.Parts.{Space, drawn}
 use Rattle.xcf_store.proofs.Words.{words-length}
 use Rattle.xcf_structure.proofs.StructureLength.{structure-length}
@@ -23,17 +23,14 @@ cond-most : (test : Bool) (n most : ℕ) → n ≤ most → cond test n 0 ≤ mo
 cond-most true n most h = h
 cond-most false n most h = omega arith
 
--- a row's encodings, and its level's bytes where the tiles begin at p
-abbrev encoded : Row → List ℕ → List (List ℕ)
-encoded r pixels = encodings (r .count) 0 r pixels
-
+-- a row's level where the tiles begin at p, and its tiles
 abbrev levelAt : Row → List ℕ → ℕ → List ℕ
-levelAt r pixels p = levelBytes r (starts (encoded r pixels) p) ++ joined (encoded r pixels)
+levelAt r pixels p = levelBytes r (starts (rowTiles r pixels) p) ++ flatten (rowTiles r pixels)
 
 module _ (r : Row) (hasMask : Bool) (name pixels : List ℕ) where
   pub drawable-size : drawableSize (drawn r hasMask name pixels)
-      ≡ length (structureBytes r hasMask name 0 0) + (20 + (levelSize (r .count) + length (joined (encoded r pixels))))
-  unfolding drawableSize structureSize tilesOf
+      ≡ length (structureBytes r hasMask name 0 0) + (20 + (levelSize (r .count) + length (flatten (rowTiles r pixels))))
+  unfolding drawableSize structureSize
   drawable-size = refl
 
   module _ {old : List ℕ} {to : ℕ} (s : Space old to (drawableSize (drawn r hasMask name pixels))) where
@@ -48,7 +45,7 @@ module _ (r : Row) (hasMask : Bool) (name pixels : List ℕ) where
       hierarchy-room = omega (arith, e, put-length p, drawable-size, s .room)
 
       module _ {level : ℕ} {out : List ℕ} (q : Put mid (to + size) (words (r .width ∷ r .height ∷ r .depth ∷ (to + size + 20) ∷ 0 ∷ [])) level out) where
-        pub level-space : Space out (to + size + 20) (levelSize (r .count) + length (joined (encoded r pixels)))
+        pub level-space : Space out (to + size + 20) (levelSize (r .count) + length (flatten (rowTiles r pixels)))
         level-space = record {
           room = omega (arith, e, put-length q, put-length p, drawable-size, s .room);
           low = omega (arith, e, drawable-size, s .low);
@@ -57,7 +54,7 @@ module _ (r : Row) (hasMask : Bool) (name pixels : List ℕ) where
         pub drawable-put : {end : ℕ} {new : List ℕ} → mask ≡ cond hasMask (to + drawableSize (drawn r hasMask name pixels)) 0
             → Put out (to + size + 20) (levelAt r pixels (to + size + 20 + levelSize (r .count))) end new
             → Put old to (drawableBytes (drawn r hasMask name pixels) to) end new
-        unfolding drawableBytes hierarchyBytes structureSize tilesOf
+        unfolding drawableBytes hierarchyBytes structureSize
         drawable-put m l =
             let first : behind ≡ to + size = omega (arith, p .behind, structure-length r hasMask name (to + size) mask, e) in
             let second : level ≡ to + size + 20 = q .behind ∙ rw words-length in

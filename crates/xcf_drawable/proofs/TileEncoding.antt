@@ -19,7 +19,7 @@ use Rattle.xcf_store.specs.Put.{Put}
 use Rattle.xcf_store.proofs.Stores.{put-length}
 use Rattle.xcf_grid.specs.Pixels.{shown}
 use Rattle.xcf_grid.specs.Drawn.{Tiled}
-use Rattle.xcf_drawable.specs.Parts.{encodingOf}
+use Rattle.xcf_drawable.specs.Drawable.{encodingOf}
 use Rattle.xcf_grid.proofs.Lines.{tiled-width, tiled-height, tiled-size, shown-length}
 
 -- what is not refused is stored

@@ -4,20 +4,19 @@
 -- Assumes nothing.
 use Prim.Native.Nat.{ℕ, _+_, _-_, _*_, _≤_, _<_}
 use mathlib.Core.Path.{_≡_, ap, _∙_}
-use mathlib.Core.List.{List}
+use mathlib.Core.List.{List, flatten}
 use native.Mathlib.Omega.{arith}
 use native.Mathlib.Nat.{zero-add}
 use lib.ListN.{length, length-append}
 use Rattle.xcf_table.specs.declared.Row.{Row}
-use Rattle.xcf_drawable.specs.Drawable.{encodings, joined}
+use Rattle.xcf_drawable.specs.Drawable.{encodingOf, encodings, rowTiles}
 use Rattle.xcf_grid.specs.Drawn.{Drawn}
-use Rattle.xcf_drawable.specs.Parts.{encodingOf}
-use Rattle.xcf_drawable.proofs.EncodingBound.{few, tiled, encoding-bound, joined-next, joined-none}
+use Rattle.xcf_drawable.proofs.EncodingBound.{few, tiled, encoding-bound, flatten-next, flatten-none}
 
 pub record Measuring (r : Row) (pixels : List ℕ) (t size : ℕ) : Type 0 where
   pub inside : t ≤ r .count
   pub short : size ≤ 16644 * t
-  pub left : size + length (joined (encodings (r .count - t) t r pixels)) ≡ length (joined (encodings (r .count) 0 r pixels))
+  pub left : size + length (flatten (encodings (r .count - t) t r pixels)) ≡ length (flatten (rowTiles r pixels))
 
 pub measuring-start : {r : Row} {pixels : List ℕ} → Measuring r pixels 0 0
 measuring-start {r} =
@@ -28,8 +27,8 @@ module _ {r : Row} {pixels : List ℕ} {t size : ℕ} (m : Measuring r pixels t 
   pub measuring-next : {n : ℕ} → Drawn r pixels → t < r .count → n ≡ 0 + length (encodingOf r t pixels)
       → Measuring r pixels (t + 1) (size + n)
   measuring-next d below e =
-      let rest : List ℕ = joined (encodings (r .count - (t + 1)) (t + 1) r pixels) in
-      let whole = ap length (joined-next r pixels (r .count) t below) ∙ length-append (encodingOf r t pixels) rest in
+      let rest : List ℕ = flatten (encodings (r .count - (t + 1)) (t + 1) r pixels) in
+      let whole = ap length (flatten-next r pixels (r .count) t below) ∙ length-append (encodingOf r t pixels) rest in
       record {
         inside = omega (arith, below);
         short = omega (arith, e, encoding-bound (tiled d below), m .short);
@@ -39,5 +38,5 @@ module _ {r : Row} {pixels : List ℕ} {t size : ℕ} (m : Measuring r pixels t 
   pub measuring-small : Drawn r pixels → size ≤ 1090781184
   measuring-small d = omega (arith, m .short, m .inside, few (d .range))
 
-  pub measuring-over : r .count ≤ t → size ≡ length (joined (encodings (r .count) 0 r pixels))
-  measuring-over over = omega (arith, m .left, ap length (joined-none r pixels (r .count) t over))
+  pub measuring-over : r .count ≤ t → size ≡ length (flatten (rowTiles r pixels))
+  measuring-over over = omega (arith, m .left, ap length (flatten-none r pixels (r .count) t over))

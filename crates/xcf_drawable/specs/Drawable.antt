@@ -1,7 +1,7 @@
 -- A drawable as it is written: structure, hierarchy, level and tiles, without gaps. A structure's length does not depend on its
 -- pointers: lengths come first, places from them.
 use Prim.Native.Nat.{ℕ, zero, suc, _+_, _*_}
-use mathlib.Core.List.{List, [], _∷_, _++_}
+use mathlib.Core.List.{List, [], _∷_, _++_, flatten}
 use mathlib.Core.Bool.{Bool, cond}
 use lib.ListN.{length}
 use Rattle.xcf_table.specs.declared.Row.{Row}
@@ -17,21 +17,22 @@ pub record Drawable : Type 0 where
   pub name : List ℕ
   pub pixels : List ℕ
 
--- the encodings of n tiles, from tile t on
+-- the encoding of a row's tile t, those of n tiles from tile t on, and those of all its tiles
+unfoldable pub encodingOf : Row → ℕ → List ℕ → List ℕ
+encodingOf r t pixels =
+    encodeTile (tileWidth (r .width) t * tileHeight (r .width) (r .height) t) (r .depth) (shown (r .width) (r .height) (r .depth) t pixels)
+
 unfoldable pub encodings : ℕ → ℕ → Row → List ℕ → List (List ℕ)
 encodings zero t r pixels = []
-encodings (suc n) t r pixels =
-    encodeTile (tileWidth (r .width) t * tileHeight (r .width) (r .height) t) (r .depth) (shown (r .width) (r .height) (r .depth) t pixels)
-    ∷ encodings n (t + 1) r pixels
+encodings (suc n) t r pixels = encodingOf r t pixels ∷ encodings n (t + 1) r pixels
 
-unfoldable pub tilesOf : Drawable → List (List ℕ)
-tilesOf d = encodings (d .row .count) 0 (d .row) (d .pixels)
+abbrev pub rowTiles : Row → List ℕ → List (List ℕ)
+rowTiles r pixels = encodings (r .count) 0 r pixels
 
--- lists one behind the other, and where each begins
-unfoldable pub joined : List (List ℕ) → List ℕ
-joined [] = []
-joined (xs ∷ xss) = xs ++ joined xss
+abbrev pub tilesOf : Drawable → List (List ℕ)
+tilesOf d = rowTiles (d .row) (d .pixels)
 
+-- where each of some lists begins, one behind the other
 unfoldable pub starts : List (List ℕ) → ℕ → List ℕ
 starts [] p = []
 starts (xs ∷ xss) p = p ∷ starts xss (p + length xs)
@@ -47,7 +48,7 @@ abbrev pub levelSize : ℕ → ℕ
 levelSize count = 4 * (count + 3)
 
 unfoldable pub drawableSize : Drawable → ℕ
-drawableSize d = structureSize d + (hierarchySize + (levelSize (d .row .count) + length (joined (tilesOf d))))
+drawableSize d = structureSize d + (hierarchySize + (levelSize (d .row .count) + length (flatten (tilesOf d))))
 
 -- a drawable at the place p; its mask comes directly behind it
 unfoldable pub drawableBytes : Drawable → ℕ → List ℕ
@@ -56,4 +57,4 @@ drawableBytes d p =
     let level = hierarchy + hierarchySize in
     let tiles = level + levelSize (d .row .count) in
     structureBytes (d .row) (d .hasMask) (d .name) hierarchy (cond (d .hasMask) (p + drawableSize d) 0)
-    ++ (hierarchyBytes (d .row) level ++ (levelBytes (d .row) (starts (tilesOf d) tiles) ++ joined (tilesOf d)))
+    ++ (hierarchyBytes (d .row) level ++ (levelBytes (d .row) (starts (tilesOf d) tiles) ++ flatten (tilesOf d)))

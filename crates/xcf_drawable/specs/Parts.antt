@@ -1,31 +1,18 @@
 -- The contracts of a drawable's functions, by name.
-use Prim.Native.Nat.{ℕ, _+_, _*_, _≤_}
+use Prim.Native.Nat.{ℕ, _+_, _≤_}
 use mathlib.Core.Path.{_≡_}
 use mathlib.Core.List.{List}
 use mathlib.Core.Bool.{Bool}
 use lib.ListN.{length}
 use Rattle.xcf_table.specs.declared.Row.{Row}
-use Rattle.xcf_grid.specs.Grid.{tileWidth, tileHeight, tileCount}
-use Rattle.xcf_encode.specs.Tile.{encodeTile}
 use Rattle.xcf_table.specs.Table.{fileLimit}
-use Rattle.xcf_grid.specs.Pixels.{shown}
 use Rattle.xcf_drawable.specs.Drawable.{Drawable}
-use Rattle.xcf_grid.specs.Drawn.{pixelSize}
+use Rattle.xcf_grid.specs.Drawn.{Drawn}
 
 -- a drawable with numbers in range, and with the name and the pixels that they say
 pub record Writable (d : Drawable) : Type 0 where
-  pub wide : (1 ≤ d .row .width) × (d .row .width ≤ 16384)
-  pub high : (1 ≤ d .row .height) × (d .row .height ≤ 16384)
-  pub deep : (1 ≤ d .row .depth) × (d .row .depth ≤ 4)
-  pub count : d .row .count ≡ tileCount (d .row .width) (d .row .height)
+  pub drawn : Drawn (d .row) (d .pixels)
   pub named : length (d .name) ≡ d .row .size
-  pub short : d .row .size ≤ 1024
-  pub whole : length (d .pixels) ≡ pixelSize (d .row)
-
--- the encoding of a row's tile t
-unfoldable pub encodingOf : Row → ℕ → List ℕ → List ℕ
-encodingOf r t pixels =
-    encodeTile (tileWidth (r .width) t * tileHeight (r .width) (r .height) t) (r .depth) (shown (r .width) (r .height) (r .depth) t pixels)
 
 -- room for n bytes from a place on, in the output and in a file
 pub record Space (output : List ℕ) (to n : ℕ) : Type 0 where

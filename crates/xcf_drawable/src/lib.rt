@@ -3,14 +3,14 @@ mod tile;
 
 ghost use mathlib.Core.Path.{_≡_};
 ghost use mathlib.Core.Bool.{cond};
-ghost use mathlib.Core.List.{_++_};
+ghost use mathlib.Core.List.{_++_, flatten};
 ghost use Prim.Native.Nat.{_+_, _*_, _≤_};
 ghost use lib.ListN.{length};
 ghost use lib.Seq.{sets};
 ghost use Rattle.xcf_store.specs.Put.{Put};
 ghost use Rattle.xcf_store.specs.Word.{words};
 ghost use Rattle.xcf_structure.specs.Structure.{levelBytes};
-ghost use Rattle.xcf_drawable.specs.Drawable.{encodings, joined, starts, levelSize, drawableSize, drawableBytes};
+ghost use Rattle.xcf_drawable.specs.Drawable.{rowTiles, starts, levelSize, drawableSize, drawableBytes};
 ghost use Rattle.xcf_grid.specs.Drawn.{Drawn};
 ghost use Rattle.xcf_drawable.specs.Parts.{Space, drawn, Writable};
 use crate::tile::ENCODED_SIZE;
@@ -25,7 +25,7 @@ use xcf_table::Row;
 // The length of the tiles' encodings; the tile and the encoded are room for one tile.
 fn measure_each(row: Row, pixels: &[u8], tile: &mut [u8], encoded: &mut [u8]) -> usize
     requires { ⌜ Drawn row (now pixels) × ((length (now tile) ≡ 16384) × (length (now encoded) ≡ 16644)) ⌝ }
-    ensures { λ r. ⌜ (r ≡ length (joined (encodings (row .count) 0 row (now (pixels .entry))))) × (r ≤ 1090781184) ⌝ }
+    ensures { λ r. ⌜ (r ≡ length (flatten (rowTiles row (now (pixels .entry))))) × (r ≤ 1090781184) ⌝ }
     ensures { λ _. ⌜ (length (now (tile .exit)) ≡ 16384) × (length (now (encoded .exit)) ≡ 16644) ⌝ }
 {
     let mut t: u32 = 0;
@@ -40,7 +40,7 @@ fn measure_each(row: Row, pixels: &[u8], tile: &mut [u8], encoded: &mut [u8]) ->
 // The same, with room made for one tile.
 fn measure_tiles(row: Row, pixels: &[u8]) -> usize
     requires { ⌜ Drawn row (now pixels) ⌝ }
-    ensures { λ r. ⌜ (r ≡ length (joined (encodings (row .count) 0 row (now (pixels .entry))))) × (r ≤ 1090781184) ⌝ }
+    ensures { λ r. ⌜ (r ≡ length (flatten (rowTiles row (now (pixels .entry))))) × (r ≤ 1090781184) ⌝ }
 {
     let mut tile = [0u8; TILE_SIZE];
     let mut encoded = [0u8; ENCODED_SIZE];
@@ -67,9 +67,9 @@ fn put_each(
     tile: &mut [u8],
 ) -> usize
     requires { ⌜ Drawn row (now pixels) × (length (now tile) ≡ 16384) ⌝ }
-    requires { ⌜ (link + 4 * row .count ≤ first) × Space (now output) first (length (joined (encodings (row .count) 0 row (now pixels)))) ⌝ }
-    ensures { λ r. ⌜ r ≡ first + length (joined (encodings (row .count) 0 row (now (pixels .entry)))) ⌝ }
-    ensures { λ _. ⌜ now (output .exit) ≡ sets (sets (now (output .entry)) link (words (starts (encodings (row .count) 0 row (now (pixels .entry))) first))) first (joined (encodings (row .count) 0 row (now (pixels .entry)))) ⌝ }
+    requires { ⌜ (link + 4 * row .count ≤ first) × Space (now output) first (length (flatten (rowTiles row (now pixels)))) ⌝ }
+    ensures { λ r. ⌜ r ≡ first + length (flatten (rowTiles row (now (pixels .entry)))) ⌝ }
+    ensures { λ _. ⌜ now (output .exit) ≡ sets (sets (now (output .entry)) link (words (starts (rowTiles row (now (pixels .entry))) first))) first (flatten (rowTiles row (now (pixels .entry)))) ⌝ }
     ensures { λ _. ⌜ length (now (tile .exit)) ≡ 16384 ⌝ }
 {
     let mut t: u32 = 0;
@@ -86,9 +86,9 @@ fn put_each(
 // The same, with room made for one tile.
 fn put_tiles(output: &mut [u8], link: usize, first: usize, row: Row, pixels: &[u8]) -> usize
     requires { ⌜ Drawn row (now pixels) ⌝ }
-    requires { ⌜ (link + 4 * row .count ≤ first) × Space (now output) first (length (joined (encodings (row .count) 0 row (now pixels)))) ⌝ }
-    ensures { λ r. ⌜ r ≡ first + length (joined (encodings (row .count) 0 row (now (pixels .entry)))) ⌝ }
-    ensures { λ _. ⌜ now (output .exit) ≡ sets (sets (now (output .entry)) link (words (starts (encodings (row .count) 0 row (now (pixels .entry))) first))) first (joined (encodings (row .count) 0 row (now (pixels .entry)))) ⌝ }
+    requires { ⌜ (link + 4 * row .count ≤ first) × Space (now output) first (length (flatten (rowTiles row (now pixels)))) ⌝ }
+    ensures { λ r. ⌜ r ≡ first + length (flatten (rowTiles row (now (pixels .entry)))) ⌝ }
+    ensures { λ _. ⌜ now (output .exit) ≡ sets (sets (now (output .entry)) link (words (starts (rowTiles row (now (pixels .entry))) first))) first (flatten (rowTiles row (now (pixels .entry)))) ⌝ }
 {
     let mut tile = [0u8; TILE_SIZE];
     put_each(output, link, first, row, pixels, &mut tile)
@@ -97,8 +97,8 @@ fn put_tiles(output: &mut [u8], link: usize, first: usize, row: Row, pixels: &[u
 // The level and the tiles behind it.
 fn put_level(output: &mut [u8], to: usize, row: Row, pixels: &[u8]) -> usize
     requires { ⌜ Drawn row (now pixels) ⌝ }
-    requires { ⌜ Space (now output) to (levelSize (row .count) + length (joined (encodings (row .count) 0 row (now pixels)))) ⌝ }
-    ensures { λ r. ⌜ Put (now (output .entry)) to (levelBytes row (starts (encodings (row .count) 0 row (now (pixels .entry))) (to + levelSize (row .count))) ++ joined (encodings (row .count) 0 row (now (pixels .entry)))) r (now (output .exit)) ⌝ }
+    requires { ⌜ Space (now output) to (levelSize (row .count) + length (flatten (rowTiles row (now pixels)))) ⌝ }
+    ensures { λ r. ⌜ Put (now (output .entry)) to (levelBytes row (starts (rowTiles row (now (pixels .entry))) (to + levelSize (row .count))) ++ flatten (rowTiles row (now (pixels .entry)))) r (now (output .exit)) ⌝ }
 {
     let link = put_words(output, to, &[row.width, row.height]);
     let closing = link + 4 * row.count as usize;

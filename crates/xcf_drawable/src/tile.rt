@@ -4,7 +4,7 @@ ghost use Prim.Native.Nat.{_≤_};
 ghost use lib.ListN.{length};
 ghost use Rattle.xcf_store.specs.Put.{Put};
 ghost use Rattle.xcf_grid.specs.Drawn.{Tiled};
-ghost use Rattle.xcf_drawable.specs.Parts.{encodingOf};
+ghost use Rattle.xcf_drawable.specs.Drawable.{encodingOf};
 use xcf_encode::encode_tile;
 use xcf_grid::side_of;
 use xcf_grid::take::take_tile;

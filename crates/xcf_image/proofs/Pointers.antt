@@ -3,19 +3,22 @@
 -- Assumes nothing.
 use Prim.Native.Nat.{ℕ, _+_, _-_, _≤_, _<_}
 use mathlib.Core.Path.{_≡_, ap, _∙_}
-use mathlib.Core.List.{List, [], _∷_, _++_, append-assoc, append-nil}
-use native.Mathlib.Nat.{sub-zero}
+use mathlib.Core.List.{List, [], _∷_, _++_, flatMap, append-assoc, append-nil}
+use native.Mathlib.Nat.{sub-zero, add-zero}
 use native.Mathlib.Omega.{arith}
-use lib.ListN.{length, getD, length-append}
+use lib.ListN.{length, getD, drop, length-append}
+use lib.Seq.{getD-drop, drop-drop}
 use lib.Dec.{eqb}
 use Rattle.xcf_table.specs.declared.Row.{Row}
 use Rattle.xcf_table.specs.Table.{rowAt}
 use Rattle.xcf_store.specs.Put.{Put}
 use Rattle.xcf_store.proofs.Stores.{put-append, put-length}
 use Rattle.xcf_store.specs.Word.{wordBytes, words, when}
-use Rattle.xcf_image.specs.Parts.{kindPlaces}
+use Rattle.xcf_image.specs.Image.{kindPlaces}
+use Rattle.xcf_image.specs.Parts.{rowsFrom}
+use Rattle.xcf_laws.proofs.FlatMaps.{flatMap-append}
 use Rattle.xcf_laws.proofs.Steps.{rest-begins, rest-empty}
-use Rattle.xcf_store.proofs.Words.{words-append, words-length, put-none}
+use Rattle.xcf_store.proofs.Words.{words-length, put-none}
 use Rattle.xcf_image.proofs.ImageLength.{pointers-length}
 
 -- what a row adds
@@ -27,7 +30,7 @@ pub record PointersLeft (start : List ℕ) (to : ℕ) (table : List ℕ) (n kind
   pub few : k ≤ n
   pub done : List ℕ
   pub stored : Put start to (words done) next output
-  pub rest : done ++ kindPlaces kind table (n - k) k places ≡ kindPlaces kind table n 0 places
+  pub rest : done ++ kindPlaces kind (rowsFrom table (n - k) k) (drop k places) ≡ kindPlaces kind (rowsFrom table n 0) places
 
 pub pointers-first : (start : List ℕ) (to : ℕ) (table : List ℕ) (n kind : ℕ) (places : List ℕ)
     → PointersLeft start to table n kind places 0 to start
@@ -35,17 +38,17 @@ pointers-first start to table n kind places = record { few = omega arith; done =
 
 module _ {start : List ℕ} {to : ℕ} {table : List ℕ} {n kind : ℕ} {places : List ℕ} {k next : ℕ} {output : List ℕ} (g : PointersLeft start to table n kind places k next output) where
   module _ {r : Row} (h : k < n) (e : r ≡ rowAt table k) where
-    pointers-step : g .done ++ (rowPlace kind r (getD places k 0) ++ kindPlaces kind table (n - (k + 1)) (k + 1) places)
-        ≡ kindPlaces kind table n 0 places
-    unfolding kindPlaces
-    pointers-step = rw e (rw (rest-begins n k h) at (g .rest))
+    pointers-step : g .done ++ (rowPlace kind r (getD places k 0) ++ kindPlaces kind (rowsFrom table (n - (k + 1)) (k + 1)) (drop (k + 1) places))
+        ≡ kindPlaces kind (rowsFrom table n 0) places
+    unfolding kindPlaces rowsFrom
+    pointers-step = rw e (rw (rest-begins n k h, getD-drop, add-zero, drop-drop) at (g .rest))
 
-    pub pointers-room : to + length (words (kindPlaces kind table n 0 places ++ (0 ∷ []))) ≤ length start
+    pub pointers-room : to + length (words (kindPlaces kind (rowsFrom table n 0) places ++ (0 ∷ []))) ≤ length start
         → next + length (words (rowPlace kind r (getD places k 0))) ≤ length output
     pointers-room room =
         omega (
           arith,
-          pointers-length (kindPlaces kind table n 0 places),
+          pointers-length (kindPlaces kind (rowsFrom table n 0) places),
           simp length-append at (ap length pointers-step),
           g .stored .behind,
           words-length (g .done),
@@ -58,21 +61,21 @@ module _ {start : List ℕ} {to : ℕ} {table : List ℕ} {n kind : ℕ} {places
     pointers-next p = record {
       few = omega arith;
       done = g .done ++ rowPlace kind r (getD places k 0);
-      stored = rw words-append (put-append (g .stored) p);
+      stored = rw flatMap-append (put-append (g .stored) p);
       rest = append-assoc (g .done) _ _ ∙ pointers-step;
     }
 
   module _ (h : n ≤ k) where
-    all-done : g .done ≡ kindPlaces kind table n 0 places
-    unfolding kindPlaces
+    all-done : g .done ≡ kindPlaces kind (rowsFrom table n 0) places
+    unfolding kindPlaces rowsFrom
     all-done = rw (rest-empty n k h, append-nil) at (g .rest)
 
-    pub pointers-end-room : to + length (words (kindPlaces kind table n 0 places ++ (0 ∷ []))) ≤ length start
+    pub pointers-end-room : to + length (words (kindPlaces kind (rowsFrom table n 0) places ++ (0 ∷ []))) ≤ length start
         → next + 4 ≤ length output
     pointers-end-room room =
         omega (
           arith,
-          pointers-length (kindPlaces kind table n 0 places),
+          pointers-length (kindPlaces kind (rowsFrom table n 0) places),
           ap length all-done,
           g .stored .behind,
           words-length (g .done),
@@ -80,6 +83,6 @@ module _ {start : List ℕ} {to : ℕ} {table : List ℕ} {n kind : ℕ} {places
         )
 
     pub pointers-whole : {r : ℕ} {new : List ℕ} → Put output next (wordBytes 0) r new
-        → Put start to (words (kindPlaces kind table n 0 places ++ (0 ∷ []))) r new
-    unfolding words
-    pointers-whole p = rw (← all-done, words-append, append-nil) (put-append (g .stored) p)
+        → Put start to (words (kindPlaces kind (rowsFrom table n 0) places ++ (0 ∷ []))) r new
+    unfolding flatMap
+    pointers-whole p = rw (← all-done, flatMap-append, append-nil) (put-append (g .stored) p)

@@ -7,8 +7,8 @@ ghost use lib.ListN.{length, getD};
 ghost use Rattle.xcf_store.specs.Put.{Put};
 ghost use Rattle.xcf_parse.specs.Header.{tags};
 ghost use Rattle.xcf_store.specs.Word.{words};
-ghost use Rattle.xcf_image.specs.Image.{imageBytes};
-ghost use Rattle.xcf_image.specs.Parts.{kindPlaces, LowPlaces, versionFrom};
+ghost use Rattle.xcf_image.specs.Image.{versionOf, kindPlaces, imageOf};
+ghost use Rattle.xcf_image.specs.Parts.{rowsFrom, LowPlaces};
 use xcf_parse::header::FILE;
 use xcf_parse::header::MAGIC;
 use xcf_parse::header::V002;
@@ -22,7 +22,7 @@ use xcf_table::row_at;
 // How many of the first n rows are of a kind.
 fn count_kind(table: &[u32], n: u32, kind: u32) -> usize
     requires { ⌜ n ≤ 128 ⌝ }
-    ensures { λ r. ⌜ (r ≡ length (kindPlaces kind (now (table .entry)) n 0 [])) × (r ≤ 128) ⌝ }
+    ensures { λ r. ⌜ (r ≡ length (kindPlaces kind (rowsFrom (now (table .entry)) n 0) [])) × (r ≤ 128) ⌝ }
 {
     let mut k: u32 = 0;
     let mut count: usize = 0;
@@ -40,14 +40,14 @@ fn count_kind(table: &[u32], n: u32, kind: u32) -> usize
 // The length of the image's structure.
 pub fn image_size(canvas: Canvas, table: &[u32], n: u32) -> usize
     requires { ⌜ n ≤ 128 ⌝ }
-    ensures { λ r. ⌜ (r ≡ length (imageBytes canvas (versionFrom (now (table .entry)) n 0) (kindPlaces 1 (now (table .entry)) n 0 []) (kindPlaces 3 (now (table .entry)) n 0 []))) × (r ≤ 1100) ⌝ }
+    ensures { λ r. ⌜ (r ≡ length (imageOf canvas (rowsFrom (now (table .entry)) n 0) [])) × (r ≤ 1100) ⌝ }
 {
     51 + 4 * count_kind(table, n, 1) + 4 * count_kind(table, n, 3)
 }
 
 // Whether one of the first n rows has a mode above 18, which makes the file's version 2.
 fn new_mode(table: &[u32], n: u32) -> bool
-    ensures { λ r. ⌜ cond r 2 0 ≡ versionFrom (now (table .entry)) n 0 ⌝ }
+    ensures { λ r. ⌜ cond r 2 0 ≡ versionOf (rowsFrom (now (table .entry)) n 0) ⌝ }
 {
     let mut k: u32 = 0;
     while k < n {
@@ -80,8 +80,8 @@ fn put_pointers(
 ) -> usize
     requires { ⌜ (n ≤ 128) × (length (now places) ≡ 129) ⌝ }
     requires { ⌜ LowPlaces (now places) n ⌝ }
-    requires { ⌜ to + length (words (kindPlaces kind (now table) n 0 (now places) ++ (0 ∷ []))) ≤ length (now output) ⌝ }
-    ensures { λ r. ⌜ Put (now (output .entry)) to (words (kindPlaces kind (now (table .entry)) n 0 (now (places .entry)) ++ (0 ∷ []))) r (now (output .exit)) ⌝ }
+    requires { ⌜ to + length (words (kindPlaces kind (rowsFrom (now table) n 0) (now places) ++ (0 ∷ []))) ≤ length (now output) ⌝ }
+    ensures { λ r. ⌜ Put (now (output .entry)) to (words (kindPlaces kind (rowsFrom (now (table .entry)) n 0) (now (places .entry)) ++ (0 ∷ []))) r (now (output .exit)) ⌝ }
 {
     let mut k: u32 = 0;
     let mut next = to;
@@ -104,13 +104,13 @@ pub fn put_image(
 ) -> usize
     requires { ⌜ (n ≤ 128) × (length (now places) ≡ 129) ⌝ }
     requires { ⌜ LowPlaces (now places) n ⌝ }
-    requires { ⌜ length (imageBytes canvas (versionFrom (now table) n 0) (kindPlaces 1 (now table) n 0 (now places)) (kindPlaces 3 (now table) n 0 (now places))) ≤ length (now output) ⌝ }
-    ensures { λ r. ⌜ Put (now (output .entry)) 0 (imageBytes canvas (versionFrom (now (table .entry)) n 0) (kindPlaces 1 (now (table .entry)) n 0 (now (places .entry))) (kindPlaces 3 (now (table .entry)) n 0 (now (places .entry)))) r (now (output .exit)) ⌝ }
+    requires { ⌜ length (imageOf canvas (rowsFrom (now table) n 0) (now places)) ≤ length (now output) ⌝ }
+    ensures { λ r. ⌜ Put (now (output .entry)) 0 (imageOf canvas (rowsFrom (now (table .entry)) n 0) (now (places .entry))) r (now (output .exit)) ⌝ }
 {
     let magic = put_bytes(output, 0, &MAGIC);
     let tag = put_tag(output, magic, new_mode(table, n));
-    let sides = put_words(output, tag, &[canvas.width, canvas.height, canvas.base]);
-    let compression = put_words(output, sides, &[17, 1]);
+    let words = [canvas.width, canvas.height, canvas.base, 17, 1];
+    let compression = put_words(output, tag, &words);
     output[compression] = 1;
     let list = put_words(output, compression + 1, &[0, 0]);
     let layers = put_pointers(output, list, table, n, 1, places);

@@ -31,16 +31,16 @@ module _ {f : List ℕ} {p : ℕ} (d : Drawable) (fine : Writable d) (kind : (1 
   in-range =
       rw (
         bounds-within _ _ _ kind,
-        bounds-within _ _ _ (fine .wide),
-        bounds-within _ _ _ (fine .high),
-        bounds-within _ _ _ (fine .deep),
+        bounds-within _ _ _ (fine .drawn .range .wide),
+        bounds-within _ _ _ (fine .drawn .range .high),
+        bounds-within _ _ _ (fine .drawn .range .deep),
       )
 
   in-file : inFile pointerSize (length f) (readRow d p) ≡ true
   unfolding inFile readRow
   in-file =
       let inside = tiles-inside pointerSize (d .row .count) 0 f _ (sym (walked d s fine small some .gives)) in
-      rw (eq-eqb _ _ (fine .count), le-leb _ _ inside)
+      rw (eq-eqb _ _ (fine .drawn .range .count), le-leb _ _ inside)
 
   decodable : (table : ℕ) → table ≡ tableSize → drawableRefusal pointerSize f table (readRow d p) 1 true ≡ refusal 0 0
   unfolding drawableRefusal rowRefusal usableRow

@@ -4,7 +4,7 @@
 -- Assumes nothing.
 use Prim.Native.Nat.{ℕ, zero, suc, _+_, _*_, _≤_, _<_}
 use mathlib.Core.Path.{_≡_, refl, ap, sym, _∙_}
-use mathlib.Core.List.{List, _++_}
+use mathlib.Core.List.{List, _++_, flatten}
 use mathlib.Core.Bool.{Bool, true, false, cond}
 use native.Mathlib.Omega.{arith}
 use borrow.Author.Tests.{ne-eqb, eq-eqb}
@@ -24,7 +24,7 @@ use Rattle.xcf_read.specs.Drawable.{channelRows, maskRows, layerRows, canvasCha
 use Rattle.xcf_usable.specs.Usable.{visible, apply, selection, active}
 use Rattle.xcf_usable.proofs.RowFacts.{LayerFacts, ChannelFacts, MaskFacts, CanvasFacts}
 use Rattle.xcf_structure.specs.Structure.{structureBytes}
-use Rattle.xcf_drawable.specs.Drawable.{Drawable, tilesOf, joined, drawableSize, drawableBytes}
+use Rattle.xcf_drawable.specs.Drawable.{Drawable, tilesOf, drawableSize, drawableBytes}
 use Rattle.xcf_drawable.specs.Parts.{Writable}
 use Rattle.xcf_drawable.proofs.DrawableLength.{tiles-counted, starts-length, hierarchyAt, levelAt, tilesAt, maskAt, structureOf, hierarchyOf, levelOf, structure-size, hierarchy-size, level-size, drawable-length}
 use Rattle.xcf_round_trip.proofs.Parts.{Stands, Gives, propertiesOf, sidesSize, readRow}
@@ -47,17 +47,17 @@ module _ {f : List ℕ} {p : ℕ} (d : Drawable) (s : Stands f p (drawableBytes 
   unfolding structureBytes
   name-at = name-stands (d .name) (stands-front _ _ (rw sides-length at (stands-behind (sidesOf (d .row)) _ structure-stands)))
 
-  behind-structure : Stands f (hierarchyAt d p) (hierarchyOf d p ++ (levelOf d p ++ joined (tilesOf d)))
+  behind-structure : Stands f (hierarchyAt d p) (hierarchyOf d p ++ (levelOf d p ++ flatten (tilesOf d)))
   unfolding drawableBytes
   behind-structure = rw structure-size at (stands-behind (structureOf d p) _ s)
 
-  behind-hierarchy : Stands f (levelAt d p) (levelOf d p ++ joined (tilesOf d))
+  behind-hierarchy : Stands f (levelAt d p) (levelOf d p ++ flatten (tilesOf d))
   behind-hierarchy = rw hierarchy-size at (stands-behind (hierarchyOf d p) _ behind-structure)
 
   pub level-stands : Stands f (levelAt d p) (levelOf d p)
   level-stands = stands-front (levelOf d p) _ behind-hierarchy
 
-  pub tiles-stand : Stands f (tilesAt d p) (joined (tilesOf d))
+  pub tiles-stand : Stands f (tilesAt d p) (flatten (tilesOf d))
   tiles-stand = rw level-size at (stands-behind (levelOf d p) _ behind-hierarchy)
 
 -- a flag that is 0 or 1; a layer applies no mask where it has none
@@ -116,10 +116,11 @@ module _ {f : List ℕ} {p : ℕ} (d : Drawable) (x : Readable d) (small : lengt
       → Gives (hierarchy 4 (d .row .width) (d .row .height) depth) f (hierarchyAt d p) (levelAt d p + 8)
   reads-levels depth same =
       let rise = tiles-rise d (tilesAt d p) (length f) w (omega arith) (tiles-stand d s .inside) in
-      let count = starts-length (tilesOf d) (tilesAt d p) ∙ tiles-counted d ∙ w .count in
+      let range = w .drawn .range in
+      let count = starts-length (tilesOf d) (tilesAt d p) ∙ tiles-counted d ∙ range .count in
       let inside : levelAt d p ≤ length f = omega (arith, level-stands d s .inside) in
       rw (← same)
-      (reads-hierarchy (d .row) (levelAt d p) _ small (w .wide .1) (w .high .1) (w .deep .1) count rise (omega arith) inside
+      (reads-hierarchy (d .row) (levelAt d p) _ small (range .wide .1) (range .high .1) (range .deep .1) count rise (omega arith) inside
       (stands-front (hierarchyOf d p) _ (behind-structure d s)) (level-stands d s))
 
   -- a mask or channel
@@ -127,7 +128,7 @@ module _ {f : List ℕ} {p : ℕ} (d : Drawable) (x : Readable d) (small : lengt
     channel-row : channelRow (ownerOf (d .row)) (fieldsOf d (p + sidesSize (d .row)) (hierarchyAt d p)) (levelAt d p + 8)
         ≡ readRow d p
     unfolding channelRow readRow
-    channel-row = rw (channel-flags (d .row) (d .hasMask) facts, facts .depth, facts .form, facts .mode, w .count, w .named)
+    channel-row = rw (channel-flags (d .row) (d .hasMask) facts, facts .depth, facts .form, facts .mode, w .drawn .range .count, w .named)
 
     reads-owned : (rows : Rows) → Gives (channelRows pointerSize (ownerOf (d .row)) rows) f p (addRow rows (readRow d p))
     unfolding channelRows
@@ -145,7 +146,7 @@ module _ {f : List ℕ} {p : ℕ} (d : Drawable) (x : Readable d) (small : lengt
     unfolding layerRow readRow
     layer-row =
         let flags = layer-flags (d .row) (d .hasMask) (p + drawableSize d) facts (omega arith) in
-        rw (flags, facts .kind, facts .depth, facts .owner, w .count, w .named)
+        rw (flags, facts .kind, facts .depth, facts .owner, w .drawn .range .count, w .named)
 
     reads-layered : {all : Rows} → ((q : ℕ) → Gives (maskRows pointerSize (layerAt d p) (rows .count) (addRow rows (readRow d p))) f q all)
         → Gives (layerRows pointerSize c rows) f p all

@@ -14,6 +14,7 @@ use lib.Dec.{eqb}
 use lib.ListN.{length, getD, drop, length-append}
 use lib.Seq.{drop-drop}
 use Rattle.xcf_laws.proofs.Cases.{below-or, by-cases}
+use Rattle.xcf_store.specs.Word.{part}
 use Rattle.xcf_store.proofs.Parts.{part-length}
 use Rattle.xcf_table.specs.declared.Row.{Row}
 use Rattle.xcf_table.specs.Table.{rowSize, tableSize, rowAt}
@@ -25,18 +26,24 @@ use Rattle.xcf_usable.proofs.RowFacts.{LayerFacts, ChannelFacts, MaskFacts, Can
 use Rattle.xcf_usable.proofs.Counts.{before-next}
 use Rattle.xcf_usable.proofs.Order.{first-not-mask, mask-behind, after-channel, few-layers, few-channels}
 use Rattle.xcf_drawable.specs.Drawable.{Drawable}
-use Rattle.xcf_write.specs.File.{placesOf}
-use Rattle.xcf_body.specs.Rows.{usedFrom, pixelsSize, drawablesFrom, usedRows}
+use Rattle.xcf_write.specs.File.{rowsOf}
+use Rattle.xcf_body.specs.Rows.{usedFrom, pixelsSize, rowDrawable, drawablesFrom, usedRows}
 use Rattle.xcf_grid.specs.Drawn.{pixelSize}
-use Rattle.xcf_image.specs.Parts.{kindPlaces}
+use Rattle.xcf_image.specs.Image.{kindPlaces}
+use Rattle.xcf_image.specs.Parts.{rowsFrom}
+use Rattle.xcf_image.proofs.ImageLength.{kind-length}
 use Rattle.xcf_image.proofs.RowsLoop.{one-when}
-use Rattle.xcf_body.proofs.Drawables.{rowDrawn, row-writable}
+use Rattle.xcf_body.proofs.Drawables.{row-writable}
 use Rattle.xcf_write.proofs.RowsUsed.{used-most, used-kind, used-facts, ready}
-use Rattle.xcf_write.proofs.FileLaws.{places-count, rows-length}
+use Rattle.xcf_write.proofs.FileLaws.{rows-length, rows-are}
 use Rattle.xcf_write.proofs.Accepted.{InputAccepted}
+use Rattle.xcf_round_trip.proofs.Parts.{placesOf}
 use Rattle.xcf_round_trip.proofs.DrawableRead.{Readable}
 
--- row k's drawable, and those of the used rows
+-- row k's drawable where its pixels begin at a place, as it is, and those of the used rows
+abbrev rowDrawn : List ℕ → List ℕ → List ℕ → ℕ → ℕ → Drawable
+rowDrawn table names pixels k at = rowDrawable table names k (part pixels at (pixelSize (rowAt table k)))
+
 abbrev pub drawableOf : List ℕ → List ℕ → List ℕ → ℕ → Drawable
 drawableOf table names pixels k = rowDrawn table names pixels k (pixelsSize table k 0)
 
@@ -130,8 +137,8 @@ abbrev ofKind : ℕ → Row → Bool
 ofKind kind r = eqb (r .kind) kind
 
 kinds-from : (table : List ℕ) (kind n k : ℕ)
-    → before (ofKind kind) table k + length (kindPlaces kind table n k []) ≡ before (ofKind kind) table (k + n)
-unfolding kindPlaces
+    → before (ofKind kind) table k + length (kindPlaces kind (rowsFrom table n k) []) ≡ before (ofKind kind) table (k + n)
+unfolding kindPlaces rowsFrom
 kinds-from table kind zero k = simp add-zero
 kinds-from table kind (suc n) k =
     let next : k + suc n ≡ k + 1 + n = omega arith in
@@ -141,7 +148,8 @@ places-counted : (table names : List ℕ) (kind n p : ℕ) (pixels : List ℕ)
     → length (placesOf kind (drawablesFrom table n 0 names pixels) p) ≡ before (ofKind kind) table n
 unfolding before
 places-counted table names kind n p pixels =
-    places-count table names kind n 0 p pixels ∙ (simp zero-add at (kinds-from table kind n 0))
+    kind-length kind (rowsOf (drawablesFrom table n 0 names pixels)) _
+    ∙ rw (rows-are table names n 0 pixels) (simp zero-add at (kinds-from table kind n 0))
 
 module _ (c : Canvas) (table names pixels : List ℕ) (low : (i : ℕ) → getD table i 0 < 4294967296)
     (a : InputAccepted c table (length names) (length pixels)) where
@@ -166,9 +174,11 @@ module _ (c : Canvas) (table names pixels : List ℕ) (low : (i : ℕ) → getD 
       record {
         writable =
             row-writable (record {
-              range = rows .range k h;
+              drawn = record {
+                range = rows .range k h;
+                whole = part-length pixels (pixelsSize table k 0) (pixelSize (rowAt table k)) (omega (arith, within, a .whole));
+              };
               named = rows .named k h;
-              whole = part-length pixels (pixelsSize table k 0) (pixelSize (rowAt table k)) (omega (arith, within, a .whole));
             });
         listed = record {
           opaque = used-facts c (length names) table (a .usable) k h .opaque;

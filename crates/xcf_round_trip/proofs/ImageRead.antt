@@ -3,7 +3,7 @@
 -- Assumes nothing.
 use Prim.Native.Nat.{ℕ, _+_, _≤_, _<_}
 use mathlib.Core.Path.{_≡_, refl}
-use mathlib.Core.List.{List, [], _∷_, _++_}
+use mathlib.Core.List.{List, [], _∷_, _++_, flatMap}
 use mathlib.Core.Bool.{true}
 use mathlib.Core.Logic.{_⊎_, inl, inr}
 use native.Mathlib.Nat.{zero-add}
@@ -24,16 +24,16 @@ use Rattle.xcf_parse.specs.Image.{baseOk, baseType, head}
 use Rattle.xcf_read.specs.Image.{canvasOf, image}
 use Rattle.xcf_store.specs.Word.{wordBytes, words}
 use Rattle.xcf_structure.specs.Structure.{propertyBytes, listBytes}
-use Rattle.xcf_image.specs.Image.{imageProperties, imageBytes}
+use Rattle.xcf_image.specs.Image.{imageProperties, versionOf, imageBytes, imageOf}
 use Rattle.xcf_drawable.specs.Drawable.{Drawable, drawableBytes}
-use Rattle.xcf_body.specs.Rows.{drawablesBytes, usedRows}
-use Rattle.xcf_write.specs.File.{placesOf, versionOf, imageSize, fileBytes}
+use Rattle.xcf_body.specs.Rows.{drawablesBytes, placesFrom, usedRows}
+use Rattle.xcf_write.specs.File.{rowsOf, imageSize, fileBytes}
 use Rattle.xcf_write.specs.Answer.{fileOf}
 use Rattle.xcf_store.proofs.Words.{words-length}
-use Rattle.xcf_image.proofs.ImageLength.{version-old-or-new, tag-length, image-length}
-use Rattle.xcf_write.proofs.FileLaws.{places-count, version-rows, rows-length}
+use Rattle.xcf_image.proofs.ImageLength.{version-old-or-new, tag-length, image-same}
+use Rattle.xcf_write.proofs.FileLaws.{rows-length}
 use Rattle.xcf_write.proofs.Accepted.{InputAccepted}
-use Rattle.xcf_round_trip.proofs.Parts.{Stands, Gives, Rises, addAll}
+use Rattle.xcf_round_trip.proofs.Parts.{Stands, Gives, Rises, placesOf, addAll}
 use Rattle.xcf_round_trip.proofs.Stands.{stands-front, stands-behind}
 use Rattle.xcf_round_trip.proofs.Steps.{Reads, reads-gives, gives-reads, then, then-here, ends, ends-as, reads-bytes, reads-must}
 use Rattle.xcf_round_trip.proofs.WordsRead.{words-rest, reads-number}
@@ -98,7 +98,7 @@ module _ {f : List ℕ} (c : Canvas) (v : ℕ) (layers channels : List ℕ) (w :
   behind-sides = rw words-length at (stands-behind (sidesBytes c) _ behind-tag)
 
   behind-list : Stands f 43 (closed layers ++ closed channels)
-  unfolding wordBytes words propertyBytes listBytes imageProperties
+  unfolding wordBytes flatMap propertyBytes imageProperties
   behind-list = stands-behind (listBytes imageProperties) _ behind-sides
 
   reads-head : sideOk (c .width) ≡ true → sideOk (c .height) ≡ true → c .base ≤ 1 → Reads head f 0 (headOf c v) 43
@@ -128,20 +128,15 @@ module _ (c : Canvas) (table names pixels : List ℕ) where
   file = fileOf c table names pixels
 
   abbrev imageAt : ℕ → List ℕ
-  imageAt p = imageBytes c (versionOf ds) (placesOf 1 ds p) (placesOf 3 ds p)
+  imageAt p = imageOf c (rowsOf ds) (placesFrom ds p)
 
-  version-known : Known (versionOf ds)
-  version-known = rw (version-rows table names (usedRows table) 0 pixels) (version-old-or-new table (usedRows table) 0)
+  abbrev version : ℕ
+  version = versionOf (rowsOf ds)
 
   -- its image's length does not depend on where the drawables begin
   image-at : (p : ℕ) → length (imageAt p) ≡ start
   unfolding imageSize
-  image-at p =
-      rw (
-        image-length c (versionOf ds) (placesOf 1 ds p) (placesOf 3 ds p) version-known,
-        image-length c (versionOf ds) (placesOf 1 ds 0) (placesOf 3 ds 0) version-known,
-      )
-      (simp places-count)
+  image-at p = image-same c (rowsOf ds) (placesFrom ds p)
 
   image-some : 0 < start
   unfolding imageBytes imageSize
@@ -170,12 +165,13 @@ module _ (c : Canvas) (table names pixels : List ℕ) where
 
   pub image-read : ((i : ℕ) → getD table i 0 < 4294967296) → InputAccepted c table (length names) (length pixels)
       → length file ≤ 1073741824
-      → Gives (image pointerSize) file 0 (record { head = headOf c (versionOf ds); rows = addAll noRows ds start })
+      → Gives (image pointerSize) file 0 (record { head = headOf c version; rows = addAll noRows ds start })
   unfolding image canvasOf
   image-read low a small =
+      let known = version-old-or-new (rowsOf ds) in
       let layers = placesOf 1 ds start in
       let few = places-few c table names pixels low a start in
-      let behind = behind-list c (versionOf ds) layers (placesOf 3 ds start) version-known image-stands in
+      let behind = behind-list c version layers (placesOf 3 ds start) known image-stands in
       let rise : (kind : ℕ) → Rises 0 (placesOf kind ds start) (length file) =
       λ kind. places-rise kind ds 0 start (length file) image-some (drawables-stand .inside) in
       let order = drawables-ordered c table names pixels low a in
@@ -183,7 +179,7 @@ module _ (c : Canvas) (table names pixels : List ℕ) where
       let rows = reads-rows small c start noRows order readable image-some drawables-stand in
       let first = rows .first .at _ in
       reads-gives
-      (then _ (reads-head c (versionOf ds) layers _ version-known image-stands (a .wide) (a .high) (a .base))
+      (then _ (reads-head c version layers _ known image-stands (a .wide) (a .high) (a .base))
       (then _ (reads-pointers 48 0 (length file) layers (omega arith) (rise 1) (few .0) (stands-front _ _ behind))
       (then _ (reads-pointers 32 0 (length file) _ (omega arith) (rise 3) (few .1) (stands-behind (closed layers) _ behind))
       (then _ (gives-reads first) (then _ (gives-reads (rows .last .at (first .end))) ends)))))

@@ -12,6 +12,9 @@ use Rattle.xcf_table.specs.Table.{Rows, addRow}
 use Rattle.xcf_usable.specs.Usable.{isLayer, visible, apply, selection, active}
 use Rattle.xcf_structure.specs.Structure.{nameBytes}
 use Rattle.xcf_drawable.specs.Drawable.{Drawable, structureSize, hierarchySize, drawableSize}
+use Rattle.xcf_image.specs.Image.{kindPlaces}
+use Rattle.xcf_body.specs.Rows.{placesFrom}
+use Rattle.xcf_write.specs.File.{rowsOf}
 use Rattle.xcf_round_trip.specs.RoundTrip.{withPlaces}
 
 -- the bytes bs stand in the file f from the place p on
@@ -28,6 +31,10 @@ pub record Gives {A : Type 0} (w : Walk A) (f : List ℕ) (p : ℕ) (a : A) : Ty
 unfoldable pub Rises : ℕ → List ℕ → ℕ → Type 0
 Rises before [] end = Unit {0}
 Rises before (p ∷ ps) end = (before < p) × ((p < end) × Rises p ps end)
+
+-- the places of the drawables of a kind, where the first is at p
+abbrev pub placesOf : ℕ → List Drawable → ℕ → List ℕ
+placesOf kind ds p = kindPlaces kind (rowsOf ds) (placesFrom ds p)
 
 -- what a drawable's list of properties says
 abbrev pub propertiesOf : Row → Bool → Properties

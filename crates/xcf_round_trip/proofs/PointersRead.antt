@@ -3,7 +3,7 @@
 -- Assumes nothing.
 use Prim.Native.Nat.{ℕ, zero, suc, _+_, _≤_, _<_}
 use mathlib.Core.Path.{_≡_, refl}
-use mathlib.Core.List.{List, [], _∷_, _++_}
+use mathlib.Core.List.{List, [], _∷_, _++_, flatMap}
 use mathlib.Core.Bool.{Bool, true, false}
 use native.Mathlib.Omega.{arith}
 use borrow.Author.Tests.{ne-eqb}
@@ -13,10 +13,10 @@ use Rattle.xcf_store.specs.Pointer.{pointerSize}
 use Rattle.xcf_read.specs.Image.{pointers}
 use Rattle.xcf_store.specs.Word.{wordBytes, words, when}
 use Rattle.xcf_drawable.specs.Drawable.{Drawable, drawableSize, drawableBytes}
-use Rattle.xcf_body.specs.Rows.{drawablesBytes}
-use Rattle.xcf_write.specs.File.{placesOf}
+use Rattle.xcf_body.specs.Rows.{drawablesBytes, placesFrom}
+use Rattle.xcf_image.specs.Image.{kindPlaces}
 use Rattle.xcf_drawable.proofs.DrawableLength.{drawable-length}
-use Rattle.xcf_round_trip.proofs.Parts.{Stands, Rises}
+use Rattle.xcf_round_trip.proofs.Parts.{Stands, Rises, placesOf}
 use Rattle.xcf_round_trip.proofs.Steps.{Reads, then, then-here, ends, reads-must}
 use Rattle.xcf_round_trip.proofs.WordsRead.{words-rest, reads-number}
 
@@ -26,7 +26,7 @@ closed ps = words (ps ++ (0 ∷ []))
 
 pub reads-pointers : {f : List ℕ} {p : ℕ} (most before end : ℕ) (ps : List ℕ) → end ≤ 4294967296 → Rises before ps end
     → length ps ≤ most → Stands f p (closed ps) → Reads (pointers pointerSize most) f p ps (p + length (closed ps))
-unfolding pointers words wordBytes Rises
+unfolding pointers flatMap wordBytes Rises
 reads-pointers zero before end [] low rise few s =
     then-here _ (then _ (reads-number 0 [] s (omega arith)) (then _ (reads-must _ 8 _ refl) ends))
 reads-pointers zero before end (q ∷ ps) low rise few s = absurd (omega arith)
@@ -51,7 +51,7 @@ rise-when false before p end ps h low here behind = behind
 
 pub places-rise : (kind : ℕ) (ds : List Drawable) (before p end : ℕ) → before < p
     → p + length (drawablesBytes ds p) ≤ end → Rises before (placesOf kind ds p) end
-unfolding Rises placesOf drawablesBytes
+unfolding Rises kindPlaces placesFrom drawablesBytes
 places-rise kind [] before p end h low = tt
 places-rise kind (d ∷ ds) before p end h low =
     let next = p + drawableSize d in

@@ -3,7 +3,7 @@
 -- Assumes nothing.
 use Prim.Native.Nat.{ℕ, _+_, _*_, _/_, _%_, _≤_, _<_}
 use mathlib.Core.Path.{_≡_, refl, sym}
-use mathlib.Core.List.{List, [], _∷_, _++_}
+use mathlib.Core.List.{List, [], _∷_, _++_, flatMap}
 use mathlib.Core.Bool.{Bool, true, false, cond, and-false}
 use native.Mathlib.Omega.{arith}
 use borrow.Author.Tests.{eqb-true, eqb-false, le-leb}
@@ -27,15 +27,15 @@ use Rattle.xcf_round_trip.proofs.PropertyList.{putAll, Plain, Taken, Al
 
 -- the content of no word, of one and of two
 content-none : contentOf (words []) ≡ record { first = 0; second = 0 }
-unfolding contentOf wordOf words
+unfolding contentOf wordOf flatMap
 content-none = refl
 
 content-word : (n : ℕ) → n < 4294967296 → contentOf (words (n ∷ [])) ≡ record { first = n; second = 0 }
-unfolding contentOf wordOf words wordBytes
+unfolding contentOf wordOf flatMap wordBytes
 content-word n small = rw (word-value n small)
 
 content-words : (m n : ℕ) → m < 4294967296 → n < 4294967296 → contentOf (words (m ∷ n ∷ [])) ≡ record { first = m; second = n }
-unfolding contentOf wordOf words wordBytes
+unfolding contentOf wordOf flatMap wordBytes
 content-words m n small low = rw (word-value m small, word-value n low)
 
 -- a content of at most 1 is allowed in every entry
@@ -208,5 +208,5 @@ pub reads-image-properties : {f : List ℕ} {p : ℕ} → Stands f p (listBytes 
       selection = 0;
       group = 0;
     }) (p + 17)
-unfolding imageProperties putAll put contentOf words listBytes propertyBytes wordBytes activeType
+unfolding imageProperties putAll put contentOf flatMap propertyBytes wordBytes activeType
 reads-image-properties s = reads-list image-taken s

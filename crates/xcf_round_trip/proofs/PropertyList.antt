@@ -3,7 +3,7 @@
 -- Assumes nothing.
 use Prim.Native.Nat.{ℕ, zero, suc, _+_, _≤_, _<_}
 use mathlib.Core.Path.{_≡_, refl}
-use mathlib.Core.List.{List, [], _∷_, append-nil}
+use mathlib.Core.List.{List, [], _∷_, append-nil, flatMap}
 use mathlib.Core.Bool.{true, false, cond, and-false}
 use native.Mathlib.Nat.{add-assoc}
 use native.Mathlib.Omega.{arith}
@@ -88,7 +88,7 @@ put-mapped list x q mapped = rw mapped (cond-same (eqb (x .kind) 1) 0)
 turns-read : {f : List ℕ} {p list : ℕ} {xs : List Property} (q : Properties) (n : ℕ) → AllTaken list xs → q .unmapped ≡ 0
     → length f ≤ p + n → Stands f p (listBytes xs)
     → Reads (turns (suc n) (propertyTurn list) q) f p (putAll list xs q) (p + length (listBytes xs))
-unfolding turns putAll listBytes
+unfolding turns putAll flatMap
 turns-read q n (closes {x} e t) mapped enough s =
     rw append-nil (then _ (reads-turn t _ q mapped (stands-front (propertyBytes x) [] s)) (rw e ends))
 turns-read q zero (goes {x} {xs} e t ts) mapped enough s =

@@ -24,14 +24,15 @@ use Rattle.xcf_usable.specs.Usable.{tableRows, seenAt, masked, usable}
 use Rattle.xcf_usable.proofs.AllUsable.{all-usable}
 use Rattle.xcf_usable.proofs.RowFacts.{Use, unused, layer, mask, channel, row-use, kind-listed}
 use Rattle.xcf_usable.proofs.Order.{after-unused}
+use Rattle.xcf_image.specs.Image.{versionOf}
 use Rattle.xcf_drawable.specs.Drawable.{Drawable, drawableBytes}
-use Rattle.xcf_write.specs.File.{versionOf, imageSize}
+use Rattle.xcf_write.specs.File.{rowsOf, imageSize}
 use Rattle.xcf_body.specs.Rows.{usedRows}
 use Rattle.xcf_write.specs.Answer.{fileOf}
 use Rattle.xcf_drawable.specs.Parts.{Writable}
 use Rattle.xcf_write.proofs.Accepted.{InputAccepted, accepted}
 use Rattle.xcf_write.proofs.RowsUsed.{used-most, used-kind}
-use Rattle.xcf_write.proofs.FileLaws.{rows-length}
+use Rattle.xcf_write.proofs.FileLaws.{rows-length, rows-are}
 use Rattle.xcf_round_trip.specs.RoundTrip.{withPlaces, SameName, ReadsBack, RoundTrip}
 use Rattle.xcf_round_trip.proofs.Parts.{Stands, sidesSize, readRow, addAll}
 use Rattle.xcf_round_trip.proofs.DrawablesFrom.{drawableOf, usedDrawables, drawable-at, drawable-readable, used-end}
@@ -92,7 +93,7 @@ module _ (c : Canvas) (table names pixels lent : List ℕ) (low : (i : ℕ) → 
   few : length ds ≤ tableRows
   few = rw count (used-most table)
 
-  read : reading file lent ≡ readingOf (got (record { head = headOf c (versionOf ds); rows = addAll noRows ds start }) 0)
+  read : reading file lent ≡ readingOf (got (record { head = headOf c (versionOf (rowsOf ds)); rows = addAll noRows ds start }) 0)
   read = read-walked file lent size small (image-read c table names pixels low a small .gives)
 
   table-read : reading file lent .table ≡ tableOf (addAll noRows ds start)
@@ -142,7 +143,7 @@ module _ (c : Canvas) (table names pixels lent : List ℕ) (low : (i : ℕ) → 
 
   reads-back : ReadsBack c table names pixels file lent
   reads-back = record {
-    answer = ap (λ x. x .answer) read ∙ rw (rows-count, count, zero-add);
+    answer = ap (λ x. x .answer) read ∙ rw (rows-count, count, zero-add, rows-are table names (usedRows table) 0 pixels);
     rows = λ k h. row-placed (drawable k) _ (row-read k h);
     unused = unused-back;
     named = name-back;

@@ -14,10 +14,10 @@ use Rattle.xcf_table.specs.declared.canvas.Canvas.{Canvas}
 use Rattle.xcf_read.specs.Drawable.{layerRows, canvasChannelRows}
 use Rattle.xcf_read.specs.Image.{drawables}
 use Rattle.xcf_drawable.specs.Drawable.{Drawable, drawableSize, drawableBytes}
-use Rattle.xcf_body.specs.Rows.{drawablesBytes}
-use Rattle.xcf_write.specs.File.{placesOf}
+use Rattle.xcf_body.specs.Rows.{drawablesBytes, placesFrom}
+use Rattle.xcf_image.specs.Image.{kindPlaces}
 use Rattle.xcf_drawable.proofs.DrawableLength.{drawable-length}
-use Rattle.xcf_round_trip.proofs.Parts.{Stands, Gives, readRow, addAll}
+use Rattle.xcf_round_trip.proofs.Parts.{Stands, Gives, placesOf, readRow, addAll}
 use Rattle.xcf_round_trip.proofs.Stands.{stands-front, stands-behind}
 use Rattle.xcf_round_trip.proofs.Steps.{reads-gives, gives-reads, then, ends, reads-jump}
 use Rattle.xcf_round_trip.proofs.DrawableRead.{reads-layer, reads-masked, reads-channel}
@@ -38,11 +38,11 @@ place-some (d ∷ ds) p (suc k) h = place-some ds (p + drawableSize d) k (omega 
 -- a drawable of a kind is among the places of that kind only
 module _ (kind : ℕ) (d : Drawable) (ds : List Drawable) (p : ℕ) where
   places-more : d .row .kind ≡ kind → placesOf kind (d ∷ ds) p ≡ p ∷ placesOf kind ds (p + drawableSize d)
-  unfolding placesOf
+  unfolding kindPlaces placesFrom
   places-more e = rw (eq-eqb _ _ e)
 
   places-same : (d .row .kind ≡ kind → ⊥) → placesOf kind (d ∷ ds) p ≡ placesOf kind ds (p + drawableSize d)
-  unfolding placesOf
+  unfolding kindPlaces placesFrom
   places-same e = rw (ne-eqb _ _ e)
 
 -- a walk over drawables begins each by a jump, so that it gives the same from everywhere
@@ -88,7 +88,7 @@ module _ {f : List ℕ} (small : length f ≤ 1073741824) (c : Canvas) where
   reads-channels : {ds : List Drawable} (p : ℕ) (rows : Rows) → Channels c (rows .count) ds → AllReadable ds → 0 < p
       → Stands f p (drawablesBytes ds p)
       → (placesOf 1 ds p ≡ []) × GivesRows f (canvasChannelRows pointerSize c) (placesOf 3 ds p) rows (addAll rows ds p)
-  unfolding addRow addAll placesOf
+  unfolding addRow addAll kindPlaces
   reads-channels p rows none ws some s = (refl, gives-none)
   reads-channels p rows (channel {d = d} {ds} facts numbers xs) ws some s =
       let is = facts .kind in

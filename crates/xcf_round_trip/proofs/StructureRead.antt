@@ -90,7 +90,7 @@ module _ (d : Drawable) (w : Writable d) (l : Listed (d .row)) (h : ℕ) (some :
   unfolding fields
   reads-fields list ms kind s =
       let behind = stands-behind (nameBytes (d .name)) _ s in
-      let size : length (d .name) < 4294967295 = omega (arith, w .named, w .short) in
+      let size : length (d .name) < 4294967295 = omega (arith, w .named, w .drawn .range .short) in
       rw (← kind)
       (then _ (reads-name (d .name) size (stands-front (nameBytes (d .name)) _ s))
       (then-here _ (then _ (reads-properties (d .row) (d .hasMask) l (stands-front (listOf d) _ behind))
@@ -118,7 +118,7 @@ module _ (d : Drawable) (w : Writable d) (l : Listed (d .row)) (h : ℕ) (some :
         let last : when (isLayer (d .row)) (m ∷ []) ≡ m ∷ [] = rw is in
         let pointers = rw last at (stands-behind (listOf d) _ (stands-behind (nameBytes (d .name)) _ fields-stand)) in
         reads-gives
-        (then _ (reads-side _ _ (w .wide) sides) (then _ (reads-side _ _ (w .high) sides₁)
+        (then _ (reads-side _ _ (w .drawn .range .wide) sides) (then _ (reads-side _ _ (w .drawn .range .high) sides₁)
         (then _ (rw at at (reads-type base _ _ type form (words-rest _ _ sides₁)))
         (then _ (reads-fields 1 _ kind fields-stand) (then _ (reads-number m [] (words-rest h _ pointers) below) ends)))))
 
@@ -129,5 +129,5 @@ module _ (d : Drawable) (w : Writable d) (l : Listed (d .row)) (h : ℕ) (some :
         let at : p + 4 + 4 ≡ p + sidesSize (d .row) = rw isnt (omega arith) in
         let sides = rw isnt at sides-stand in
         reads-gives
-        (then _ (reads-side-like _ _ (w .wide) sides) (then _ (rw at at (reads-side-like _ _ (w .high) (words-rest _ _ sides)))
+        (then _ (reads-side-like _ _ (w .drawn .range .wide) sides) (then _ (rw at at (reads-side-like _ _ (w .drawn .range .high) (words-rest _ _ sides)))
         (reads-fields (d .row .kind) _ refl fields-stand)))

@@ -17,26 +17,24 @@ use Rattle.xcf_window.specs.Window.{tile}
 use Rattle.xcf_grid.specs.Pixels.{tabulate, shown, pixelsOf}
 use Rattle.xcf_decode.specs.Answer.{marksOf, nonzero, rowDecoding}
 use Rattle.xcf_grid.proofs.Tabulated.{tabulate-length, tabulate-entry}
-use Rattle.xcf_drawable.specs.Drawable.{Drawable, encodings, tilesOf}
-use Rattle.xcf_drawable.specs.Parts.{Writable, encodingOf}
+use Rattle.xcf_drawable.specs.Drawable.{Drawable, encodingOf, encodings, tilesOf}
+use Rattle.xcf_drawable.specs.Parts.{Writable}
 use Rattle.xcf_grid.proofs.Lines.{tiled-width, tiled-height, shown-length}
 use Rattle.xcf_drawable.proofs.EncodingBound.{tiled}
 use Rattle.xcf_round_trip.proofs.Parts.{readRow}
-use Rattle.xcf_round_trip.proofs.TilesRise.{writable-drawn}
 use Rattle.xcf_round_trip.proofs.PixelsShown.{pixels-of-tiles}
 use Rattle.xcf_round_trip.proofs.WindowRead.{Pointed, window-begins}
 
 -- tile t's encoding
 encodings-entry : (n i : ℕ) (r : Row) (pixels : List ℕ) (t : ℕ) → t < n
     → getD (encodings n i r pixels) t [] ≡ encodingOf r (i + t) pixels
-unfolding encodings encodingOf
+unfolding encodings
 encodings-entry zero i r pixels t below = absurd (omega arith)
 encodings-entry (suc n) i r pixels zero below = rw add-zero
 encodings-entry (suc n) i r pixels (suc t) below =
     let e : i + suc t ≡ i + 1 + t = omega arith in rw e (encodings-entry n (i + 1) r pixels t (omega arith))
 
 tile-entry : (d : Drawable) (t : ℕ) → t < d .row .count → getD (tilesOf d) t [] ≡ encodingOf (d .row) t (d .pixels)
-unfolding tilesOf
 tile-entry d t below = rw zero-add at (encodings-entry (d .row .count) 0 (d .row) (d .pixels) t below)
 
 -- marks that are all 0
@@ -59,10 +57,10 @@ module _ {f : List ℕ} (d : Drawable) (p : ℕ) {q : ℕ} (fine : Writable d) (
   tile-decoded t below =
       let w = tileWidth (d .row .width) t in
       let h = tileHeight (d .row .width) (d .row .height) t in
-      let x = tiled (writable-drawn fine) below in
+      let x = tiled (fine .drawn) below in
       let begins = window-begins s t below w h (d .row .depth) 1 in
       let back =
-      tile-read-back w h (d .row .depth) _ (begins .0) (tiled-width x .1) (tiled-height x .1) (fine .deep .1) (shown-length x) in
+      tile-read-back w h (d .row .depth) _ (begins .0) (tiled-width x .1) (tiled-height x .1) (fine .drawn .range .deep .1) (shown-length x) in
       let same =
       begins .1 ∙ ap (λ (l : List ℕ). tileOf (l ++ begins .0) w h (d .row .depth) 1) (tile-entry d t below) ∙ back in
       (ap (λ x. x .mark) same, ap (λ x. x .pixels) same)
@@ -74,8 +72,8 @@ module _ {f : List ℕ} (d : Drawable) (p : ℕ) {q : ℕ} (fine : Writable d) (
   pixels-same : pixelsOf (λ t. tile pointerSize f (readRow d p) 1 t .pixels) (d .row .width) (d .row .height) (d .row .depth)
       ≡ d .pixels
   pixels-same =
-      pixels-of-tiles (writable-drawn fine) (λ t. tile pointerSize f (readRow d p) 1 t .pixels)
-      (λ t below. tile-decoded t (rw (fine .count) below) .1)
+      pixels-of-tiles (fine .drawn) (λ t. tile pointerSize f (readRow d p) 1 t .pixels)
+      (λ t below. tile-decoded t (rw (fine .drawn .range .count) below) .1)
 
   pub row-decoding : rowDecoding pointerSize f (readRow d p) 1
       ≡ record { answer = record { number = 0; place = 0; marked = 0 }; pixels = d .pixels; marks = replicate (d .row .count) 0 }

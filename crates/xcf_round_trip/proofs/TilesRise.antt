@@ -1,7 +1,7 @@
 -- The places of a drawable's tiles rise (`tiles-rise`): no encoding is empty.
 -- Assumes nothing.
 use Prim.Native.Nat.{ℕ, zero, suc, _+_, _≤_, _<_}
-use mathlib.Core.List.{List, flatMap}
+use mathlib.Core.List.{List, flatMap, flatten}
 use native.Mathlib.Nat.{mul-le-mul}
 use native.Mathlib.Omega.{arith}
 use lib.ListN.{length, length-append}
@@ -11,8 +11,8 @@ use Rattle.xcf_encode.specs.Tile.{plane, planes, encodeTile}
 use Rattle.xcf_segment.proofs.Segments.{first-some, encode-cons}
 use Rattle.xcf_segment.proofs.SegmentBytes.{run-length, copy-length}
 use Rattle.xcf_encode.proofs.Planes.{plane-length}
-use Rattle.xcf_drawable.specs.Drawable.{Drawable, encodings, tilesOf, joined, starts}
-use Rattle.xcf_drawable.specs.Parts.{Writable, encodingOf}
+use Rattle.xcf_drawable.specs.Drawable.{Drawable, encodingOf, encodings, tilesOf, starts}
+use Rattle.xcf_drawable.specs.Parts.{Writable}
 use Rattle.xcf_grid.specs.Drawn.{Drawn, Tiled}
 use Rattle.xcf_grid.proofs.Lines.{tiled-width, tiled-height}
 use Rattle.xcf_drawable.proofs.EncodingBound.{tiled}
@@ -38,8 +38,8 @@ encoding-some {r} x = tile-some _ (r .depth) _ (mul-le-mul (tiled-width x .0) (t
 
 -- each place is above the one before, from tile t on
 encodings-rise : {r : Row} {pixels : List ℕ} → Drawn r pixels → (n t before q end : ℕ) → t + n ≤ r .count → before < q
-    → q + length (joined (encodings n t r pixels)) ≤ end → Rises before (starts (encodings n t r pixels) q) end
-unfolding encodings encodingOf joined starts Rises
+    → q + length (flatten (encodings n t r pixels)) ≤ end → Rises before (starts (encodings n t r pixels) q) end
+unfolding encodings flatten starts Rises
 encodings-rise x zero t before q end count above inside = tt
 encodings-rise {r} {pixels} x (suc n) t before q end count above inside =
     let some = encoding-some {t = t} (tiled x (omega arith)) in
@@ -47,13 +47,6 @@ encodings-rise {r} {pixels} x (suc n) t before q end count above inside =
     let next = q + length (encodingOf r t pixels) in
     (above, (omega arith, encodings-rise x n (t + 1) q next end (omega arith) (omega arith) (omega arith)))
 
-pub writable-drawn : {d : Drawable} → Writable d → Drawn (d .row) (d .pixels)
-writable-drawn w = record {
-  range = record { wide = w .wide; high = w .high; deep = w .deep; count = w .count; short = w .short };
-  whole = w .whole;
-}
-
-pub tiles-rise : (d : Drawable) (q end : ℕ) → Writable d → 0 < q → q + length (joined (tilesOf d)) ≤ end
+pub tiles-rise : (d : Drawable) (q end : ℕ) → Writable d → 0 < q → q + length (flatten (tilesOf d)) ≤ end
     → Rises 0 (starts (tilesOf d) q) end
-unfolding tilesOf
-tiles-rise d q end w some inside = encodings-rise (writable-drawn w) (d .row .count) 0 0 q end (omega arith) some inside
+tiles-rise d q end w some inside = encodings-rise (w .drawn) (d .row .count) 0 0 q end (omega arith) some inside

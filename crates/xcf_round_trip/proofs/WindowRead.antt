@@ -4,7 +4,7 @@
 -- Assumes nothing.
 use Prim.Native.Nat.{ℕ, zero, suc, _+_, _-_, _*_, _≤_, _<_}
 use mathlib.Core.Path.{_≡_, refl, sym, ap, _∙_}
-use mathlib.Core.List.{List, [], _∷_, _++_}
+use mathlib.Core.List.{List, [], _∷_, _++_, flatten}
 use native.Mathlib.Numerals.{add-one}
 use native.Mathlib.Omega.{arith}
 use borrow.Author.Tests.{ltb-true}
@@ -18,7 +18,7 @@ use Rattle.xcf_laws.proofs.Cases.{by-cases}
 use Rattle.xcf_store.specs.Pointer.{pointerSize, numberAt}
 use Rattle.xcf_window.specs.Window.{pointerAt, windowEnd, windowLength, window}
 use Rattle.xcf_window.proofs.Cuts.{cut-same}
-use Rattle.xcf_drawable.specs.Drawable.{joined, starts}
+use Rattle.xcf_drawable.specs.Drawable.{starts}
 use Rattle.xcf_store.proofs.Words.{word-length}
 use Rattle.xcf_round_trip.proofs.Parts.{Stands, Rises}
 use Rattle.xcf_round_trip.proofs.Stands.{stands-front, stands-behind}
@@ -46,12 +46,12 @@ start-next (xs ∷ []) q t below = absurd (omega arith)
 start-next (xs ∷ ys ∷ yss) q zero below = refl
 start-next (xs ∷ ys ∷ yss) q (suc t) below = start-next (ys ∷ yss) (q + length xs) t (omega arith)
 
-stands-start : {f : List ℕ} {q : ℕ} (xss : List (List ℕ)) → Stands f q (joined xss) → (t : ℕ) → t < length xss
+stands-start : {f : List ℕ} {q : ℕ} (xss : List (List ℕ)) → Stands f q (flatten xss) → (t : ℕ) → t < length xss
     → Stands f (getD (starts xss q) t 0) (getD xss t [])
-unfolding starts joined
+unfolding starts flatten
 stands-start [] s t below = absurd (omega arith)
-stands-start (xs ∷ xss) s zero below = stands-front xs (joined xss) s
-stands-start (xs ∷ xss) s (suc t) below = stands-start xss (stands-behind xs (joined xss) s) t (omega arith)
+stands-start (xs ∷ xss) s zero below = stands-front xs (flatten xss) s
+stands-start (xs ∷ xss) s (suc t) below = stands-start xss (stands-behind xs (flatten xss) s) t (omega arith)
 
 -- a longer part of the file begins with what stands there
 part-begins : {f : List ℕ} {p : ℕ} (bs : List ℕ) → Stands f p bs → (n : ℕ) → length bs ≤ n
@@ -64,7 +64,7 @@ part-begins {f} {p} bs s n long =
 pub record Pointed (size : ℕ) (f : List ℕ) (r : Row) (xss : List (List ℕ)) (q : ℕ) : Type 0 where
   pub all : length xss ≡ r .count
   pub pointers : (t : ℕ) → t < r .count → pointerAt size f r t ≡ getD (starts xss q) t 0
-  pub stands : Stands f q (joined xss)
+  pub stands : Stands f q (flatten xss)
 
 module _ {size : ℕ} {f : List ℕ} {r : Row} {xss : List (List ℕ)} {q : ℕ} (s : Pointed size f r xss q) (t : ℕ) (below : t < r .count) where
   at-pointer : Stands f (pointerAt size f r t) (getD xss t [])

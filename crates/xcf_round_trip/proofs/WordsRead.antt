@@ -2,7 +2,7 @@
 -- Assumes nothing.
 use Prim.Native.Nat.{ℕ, _+_, _/_, _<_}
 use mathlib.Core.Path.{_≡_}
-use mathlib.Core.List.{List, _∷_}
+use mathlib.Core.List.{List, _∷_, flatMap}
 use native.Mathlib.Nat.{zero-add, mod-eq-of-lt, div-add-mod', div-div-eq-div-mul}
 use native.Mathlib.Omega.{arith}
 use Rattle.xcf_store.specs.Word.{bigEndian, wordBytes, words}
@@ -31,11 +31,11 @@ reads-word n small s = then _ (reads-bytes (wordBytes n) s) (ends-as (word-value
 
 module _ {f : List ℕ} {p : ℕ} (n : ℕ) (ns : List ℕ) (s : Stands f p (words (n ∷ ns))) where
   pub words-first : Stands f p (wordBytes n)
-  unfolding words
+  unfolding flatMap
   words-first = stands-front (wordBytes n) (words ns) s
 
   pub words-rest : Stands f (p + 4) (words ns)
-  unfolding words wordBytes
+  unfolding flatMap wordBytes
   words-rest = stands-behind (wordBytes n) (words ns) s
 
   pub reads-number : n < 4294967296 → Reads (number 4) f p n (p + 4)

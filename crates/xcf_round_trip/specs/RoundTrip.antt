@@ -14,9 +14,10 @@ use Rattle.xcf_read.specs.Answer.{reading}
 use Rattle.xcf_window.specs.Usable.{fits}
 use Rattle.xcf_decode.specs.Answer.{decoding}
 use Rattle.xcf_usable.specs.Usable.{tableRows}
-use Rattle.xcf_write.specs.File.{versionOf}
+use Rattle.xcf_image.specs.Image.{versionOf}
+use Rattle.xcf_image.specs.Parts.{rowsFrom}
 use Rattle.xcf_grid.specs.Drawn.{pixelSize}
-use Rattle.xcf_body.specs.Rows.{pixelsSize, drawablesFrom, usedRows}
+use Rattle.xcf_body.specs.Rows.{pixelsSize, usedRows}
 use Rattle.xcf_write.specs.Answer.{writing}
 
 -- a row with other numbers in fields 5, 7 and 8
@@ -55,7 +56,7 @@ pub record ReadsBack (c : Canvas) (table names pixels f lent : List ℕ) : Type 
         width = c .width;
         height = c .height;
         base = c .base;
-        version = versionOf (drawablesFrom table (usedRows table) 0 names pixels);
+        version = versionOf (rowsFrom table (usedRows table) 0);
         compression = 1;
         rows = usedRows table;
       }

@@ -1,14 +1,15 @@
--- Words as bytes: their lengths, words behind words, and what is stored word by word. By induction on the words.
+-- Words as bytes: their lengths, and what is stored word by word.
 -- Assumes nothing.
 use mathlib.Core.Path.{_≡_, refl}
-use mathlib.Core.List.{List, [], _∷_, _++_, append-assoc, append-nil}
+use mathlib.Core.List.{List, [], _++_, flatMap, append-nil}
 use mathlib.Core.Bool.{Bool, true, false, cond}
 use Prim.Native.Nat.{ℕ, _+_, _*_, _/_, _%_, _≤_, _<_}
 use native.Mathlib.Nat.{add-zero}
 use native.Mathlib.Numerals.{add-one, add-two, add-three}
 use native.Mathlib.Omega.{arith}
-use lib.ListN.{length, getD, take, set, length-append, length-take}
+use lib.ListN.{length, getD, take, set, length-take}
 use lib.Seq.{take-suc, take-all}
+use Rattle.xcf_laws.proofs.FlatMaps.{flatMap-append, flatMap-length}
 use Rattle.xcf_store.specs.Put.{Put}
 use Rattle.xcf_store.proofs.Stores.{put-append, put-length}
 use Rattle.xcf_store.specs.Word.{wordBytes, words, when}
@@ -17,19 +18,8 @@ pub word-length : (n : ℕ) → length (wordBytes n) ≡ 4
 unfolding wordBytes
 word-length n = refl
 
-pub words-cons : (n : ℕ) (ns : List ℕ) → words (n ∷ ns) ≡ wordBytes n ++ words ns
-unfolding words
-words-cons n ns = refl
-
-pub words-append : (ms ns : List ℕ) → words (ms ++ ns) ≡ words ms ++ words ns
-unfolding words
-words-append [] ns = refl
-words-append (m ∷ ms) ns = rw (words-append ms ns, append-assoc)
-
 pub words-length : (ns : List ℕ) → length (words ns) ≡ 4 * length ns
-unfolding words
-words-length [] = refl
-words-length (n ∷ ns) = rw (length-append, word-length, words-length ns) (omega arith)
+words-length = flatMap-length wordBytes 4 word-length
 
 -- by a test
 pub when-length : (test : Bool) (ns : List ℕ) → length (words (when test ns)) ≡ cond test (4 * length ns) 0
@@ -43,7 +33,7 @@ put-word l to n = record { behind = refl; output = rw (add-one, add-two, add-thr
 
 -- no words are no store
 pub put-none : (l : List ℕ) (to : ℕ) → Put l to (words []) to l
-unfolding words
+unfolding flatMap
 put-none l to = record { behind = rw add-zero; output = refl }
 
 -- the first i words are stored
@@ -53,8 +43,8 @@ pub record WordsPut (start : List ℕ) (to : ℕ) (ns : List ℕ) (i next : ℕ)
 
 -- one more word
 word-snoc : (ns : List ℕ) (i : ℕ) → i < length ns → words (take (i + 1) ns) ≡ words (take i ns) ++ wordBytes (getD ns i 0)
-unfolding words
-word-snoc ns i h = rw (add-one, take-suc ns i 0, words-append, append-nil)
+unfolding flatMap
+word-snoc ns i h = rw (add-one, take-suc ns i 0, flatMap-append, append-nil)
 
 module _ {start : List ℕ} {to : ℕ} {ns : List ℕ} {i next : ℕ} {output : List ℕ} (l : WordsPut start to ns i next output) where
   pub words-room : to + 4 * length ns ≤ length start → i < length ns → next + 4 ≤ length output

@@ -1,6 +1,6 @@
 -- Bytes of a file at a place, and the words that they spell; words and lists of words as bytes.
 use Prim.Native.Nat.{ℕ, _+_, _*_, _/_, _%_}
-use mathlib.Core.List.{List, [], _∷_, _++_}
+use mathlib.Core.List.{List, [], _∷_, flatMap}
 use lib.ListN.{take, drop, length}
 use mathlib.Core.Bool.{cond, Bool}
 use lib.Dec.{leb}
@@ -23,9 +23,8 @@ unfoldable pub wordBytes : ℕ → List ℕ
 wordBytes n = n / 16777216 % 256 ∷ n / 65536 % 256 ∷ n / 256 % 256 ∷ n % 256 ∷ []
 
 -- words one behind the other
-unfoldable pub words : List ℕ → List ℕ
-words [] = []
-words (n ∷ ns) = wordBytes n ++ words ns
+abbrev pub words : List ℕ → List ℕ
+words = flatMap wordBytes
 
 -- these where a test holds, and none elsewhere
 abbrev pub when : {A : Type 0} → Bool → List A → List A

@@ -1,3 +1,4 @@
 pub mod Lists
 pub mod StructureLength
 pub mod Names
+pub mod PartsStored

@@ -1,11 +1,12 @@
 -- A drawable's property list as words: the parts that the code stores, in order, each where its test holds; and its length.
 -- Assumes nothing.
 use mathlib.Core.Path.{_≡_, refl, _∙_}
-use mathlib.Core.List.{List, [], _∷_, _++_, append-assoc}
+use mathlib.Core.List.{List, [], _∷_, _++_, flatMap}
 use mathlib.Core.Bool.{Bool, true, false, cond}
 use Prim.Native.Nat.{ℕ, _+_}
 use lib.ListN.{length, length-append}
 use lib.Dec.{eqb}
+use Rattle.xcf_laws.proofs.FlatMaps.{flatMap-append}
 use Rattle.xcf_property.specs.Property.{activeType}
 use Rattle.xcf_table.specs.declared.Row.{Row}
 use Rattle.xcf_usable.specs.Usable.{isLayer, visible, apply, selection, active}
@@ -13,53 +14,52 @@ use Rattle.xcf_store.specs.Word.{wordBytes, words, when}
 use Rattle.xcf_structure.specs.Structure.{Property, propertyBytes, listBytes, worded, drawableProperties}
 use Rattle.xcf_store.proofs.Words.{words-length, when-length}
 
-pub list-append : (xs ys : List Property) → listBytes (xs ++ ys) ≡ listBytes xs ++ listBytes ys
-unfolding listBytes
-list-append [] ys = refl
-list-append (x ∷ xs) ys = rw (list-append xs ys, append-assoc)
-
 list-six : (a b c d e f : List Property) → listBytes (a ++ (b ++ (c ++ (d ++ (e ++ f))))) ≡ listBytes a ++ (listBytes b ++ (listBytes c ++ (listBytes d ++ (listBytes e ++ listBytes f))))
-list-six a b c d e f = simp list-append
+list-six a b c d e f = simp (flatMap-append propertyBytes)
 
 -- properties by a test are words by that test
 list-when : (test : Bool) (xs : List Property) (ns : List ℕ) → listBytes xs ≡ words ns → listBytes (when test xs) ≡ words (when test ns)
-unfolding listBytes words
+unfolding flatMap
 list-when true xs ns e = e
 list-when false xs ns e = refl
 
 -- properties of no word, of one and of two
 flag-words : (kind : ℕ) → listBytes (worded kind [] ∷ []) ≡ words (kind ∷ 0 ∷ [])
-unfolding listBytes propertyBytes words wordBytes
+unfolding flatMap propertyBytes wordBytes
 flag-words kind = refl
 
 one-words : (kind a : ℕ) → listBytes (worded kind (a ∷ []) ∷ []) ≡ words (kind ∷ 4 ∷ a ∷ [])
-unfolding listBytes propertyBytes words wordBytes
+unfolding flatMap propertyBytes wordBytes
 one-words kind a = refl
 
 -- opacity and visibility, mode and offsets
 shown-words : (a b : ℕ) → listBytes (worded 6 (a ∷ []) ∷ worded 8 (b ∷ []) ∷ []) ≡ words (6 ∷ 4 ∷ a ∷ 8 ∷ 4 ∷ b ∷ [])
-unfolding listBytes propertyBytes words wordBytes
+unfolding flatMap propertyBytes wordBytes
 shown-words a b = refl
 
 layer-words : (a b c : ℕ) → listBytes (worded 7 (a ∷ []) ∷ worded 15 (b ∷ c ∷ []) ∷ []) ≡ words (7 ∷ 4 ∷ a ∷ 15 ∷ 8 ∷ b ∷ c ∷ [])
-unfolding listBytes propertyBytes words wordBytes
+unfolding flatMap propertyBytes wordBytes
 layer-words a b c = refl
 
 -- the list as it is stored: from a part on to its end
-abbrev pub layerOn : Row → List ℕ
-layerOn r = words (when (isLayer r) (7 ∷ 4 ∷ r .mode ∷ 15 ∷ 8 ∷ r .dx ∷ r .dy ∷ [])) ++ words (0 ∷ 0 ∷ [])
+module _ (r : Row) (hasMask : Bool) where
+  abbrev pub endOn : List ℕ
+  endOn = words (0 ∷ 0 ∷ [])
 
-abbrev pub applyOn : Row → Bool → List ℕ
-applyOn r hasMask = words (when hasMask (11 ∷ 4 ∷ apply r ∷ [])) ++ layerOn r
+  abbrev pub layerOn : List ℕ
+  layerOn = words (when (isLayer r) (7 ∷ 4 ∷ r .mode ∷ 15 ∷ 8 ∷ r .dx ∷ r .dy ∷ [])) ++ endOn
 
-abbrev pub shownOn : Row → Bool → List ℕ
-shownOn r hasMask = words (6 ∷ 4 ∷ r .opacity ∷ 8 ∷ 4 ∷ visible r ∷ []) ++ applyOn r hasMask
+  abbrev pub applyOn : List ℕ
+  applyOn = words (when hasMask (11 ∷ 4 ∷ apply r ∷ [])) ++ layerOn
 
-abbrev pub activeOn : Row → Bool → List ℕ
-activeOn r hasMask = words (when (eqb (active r) 1) (activeType (r .kind) ∷ 0 ∷ [])) ++ shownOn r hasMask
+  abbrev pub shownOn : List ℕ
+  shownOn = words (6 ∷ 4 ∷ r .opacity ∷ 8 ∷ 4 ∷ visible r ∷ []) ++ applyOn
 
-abbrev pub selectionOn : Row → Bool → List ℕ
-selectionOn r hasMask = words (when (eqb (selection r) 1) (4 ∷ 0 ∷ [])) ++ activeOn r hasMask
+  abbrev pub activeOn : List ℕ
+  activeOn = words (when (eqb (active r) 1) (activeType (r .kind) ∷ 0 ∷ [])) ++ shownOn
+
+  abbrev pub selectionOn : List ℕ
+  selectionOn = words (when (eqb (selection r) 1) (4 ∷ 0 ∷ [])) ++ activeOn
 
 pub list-words : (r : Row) (hasMask : Bool) → listBytes (drawableProperties r hasMask) ≡ selectionOn r hasMask
 unfolding drawableProperties

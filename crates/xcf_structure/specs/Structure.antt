@@ -1,6 +1,6 @@
 -- The bytes that a drawable's structures are written as.
 use Prim.Native.Nat.{ℕ, _+_}
-use mathlib.Core.List.{List, [], _∷_, _++_}
+use mathlib.Core.List.{List, [], _∷_, _++_, flatMap}
 use mathlib.Core.Bool.{Bool, cond}
 use lib.ListN.{length}
 use lib.Dec.{eqb}
@@ -21,9 +21,8 @@ pub record Property : Type 0 where
 unfoldable pub propertyBytes : Property → List ℕ
 propertyBytes x = wordBytes (x .kind) ++ (wordBytes (length (x .payload)) ++ x .payload)
 
-unfoldable pub listBytes : List Property → List ℕ
-listBytes [] = []
-listBytes (x ∷ xs) = propertyBytes x ++ listBytes xs
+abbrev pub listBytes : List Property → List ℕ
+listBytes = flatMap propertyBytes
 
 -- a property whose payload is some words
 abbrev pub worded : ℕ → List ℕ → Property

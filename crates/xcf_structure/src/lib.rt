@@ -14,14 +14,14 @@ use xcf_table::Row;
 
 // n where the test holds, else 0.
 pub fn or_zero(test: bool, n: usize) -> usize
-    ensures { λ r. ⌜ r ≡ cond test n 0 ⌝ }
+    ensures { λ r. ⌜ (r ≡ cond test n 0) × (r ≤ n) ⌝ }
 {
     if test { n } else { 0 }
 }
 
 fn name_size(name: &[u8]) -> usize
     requires { ⌜ length (now name) ≤ 1024 ⌝ }
-    ensures { λ r. ⌜ r ≡ length (nameBytes (now (name .entry))) ⌝ }
+    ensures { λ r. ⌜ (r ≡ length (nameBytes (now (name .entry)))) × (r ≤ 1029) ⌝ }
 {
     if name.len() == 0 {
         return 4;

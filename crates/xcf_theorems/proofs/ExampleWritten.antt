@@ -1,7 +1,7 @@
 -- The example file of document 01 is written: the tests of its table and its bytes are computed.
 -- Assumes nothing.
 use mathlib.Core.Path.{_≡_, refl}
-use mathlib.Core.List.{[], _∷_, flatMap}
+use mathlib.Core.List.{[], _∷_, flatMap, flatten}
 use borrow.Author.Tests.{le-leb}
 use lib.ListN.{length}
 use Rattle.xcf_property.specs.Property.{activeType}
@@ -12,12 +12,12 @@ use Rattle.xcf_table.specs.declared.canvas.Canvas.{Canvas}
 use Rattle.xcf_table.specs.Canvas.{sideOk, typeOk, depthOf}
 use Rattle.xcf_grid.specs.Pixels.{tabulate, shown}
 use Rattle.xcf_usable.specs.Usable.{before, rowBefore, seenAt, masked, drawableOk, layerOk, layerFollows, channelOk, maskFollows, channelFollows, allZero, usableRow, usable, badFrom, badRow}
-use Rattle.xcf_store.specs.Word.{wordBytes, words}
-use Rattle.xcf_structure.specs.Structure.{nameBytes, propertyBytes, listBytes, drawableProperties, structureBytes, hierarchyBytes, levelBytes}
-use Rattle.xcf_image.specs.Image.{imageProperties, imageBytes}
-use Rattle.xcf_drawable.specs.Drawable.{encodings, tilesOf, joined, starts, structureSize, drawableSize, drawableBytes}
-use Rattle.xcf_body.specs.Rows.{drawablesBytes, usedFrom, pixelsSize, drawablesFrom}
-use Rattle.xcf_write.specs.File.{placesOf, versionOf, imageSize, fileBytes}
+use Rattle.xcf_store.specs.Word.{wordBytes}
+use Rattle.xcf_structure.specs.Structure.{nameBytes, propertyBytes, drawableProperties, structureBytes, hierarchyBytes, levelBytes}
+use Rattle.xcf_image.specs.Image.{imageProperties, versionOf, kindPlaces, imageBytes}
+use Rattle.xcf_drawable.specs.Drawable.{encodingOf, encodings, starts, structureSize, drawableSize, drawableBytes}
+use Rattle.xcf_body.specs.Rows.{drawablesBytes, placesFrom, usedFrom, pixelsSize, drawablesFrom}
+use Rattle.xcf_write.specs.File.{imageSize, fileBytes}
 use Rattle.xcf_write.specs.Answer.{answered, fileOf, rowsRefusal, inputRefusal, writeAnswer, writeOutput, writing}
 use Rattle.xcf_theorems.specs.ExampleFile.{exampleFile, exampleTable}
 use Rattle.xcf_theorems.specs.Statements.{ExampleFileIsWritten}
@@ -30,7 +30,7 @@ unfolding rowAt sideOk typeOk depthOf before rowBefore seenAt masked drawableOk 
 accepted = refl
 
 file : fileOf canvas exampleTable (115 ∷ []) (255 ∷ []) ≡ exampleFile
-unfolding rowAt leading equalBytes copiedBytes firstSegment segmentsWithin flatMap segments segmentBytes encodeStream plane planes encodeTile tabulate shown activeType masked wordBytes words nameBytes propertyBytes listBytes imageProperties drawableProperties structureBytes hierarchyBytes levelBytes encodings tilesOf joined starts structureSize drawableSize drawableBytes drawablesBytes placesOf versionOf imageBytes imageSize fileBytes usedFrom drawablesFrom fileOf
+unfolding rowAt leading equalBytes copiedBytes firstSegment segmentsWithin segments segmentBytes encodeStream plane planes encodeTile tabulate shown activeType masked wordBytes flatMap nameBytes propertyBytes imageProperties drawableProperties structureBytes hierarchyBytes levelBytes encodingOf encodings flatten starts structureSize drawableSize drawableBytes drawablesBytes placesFrom kindPlaces versionOf imageBytes imageSize fileBytes usedFrom drawablesFrom fileOf
 file = refl
 
 pub example-written : ExampleFileIsWritten

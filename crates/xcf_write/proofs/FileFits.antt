@@ -17,7 +17,7 @@ use Rattle.xcf_write.specs.declared.WriteAnswer.{WriteAnswer}
 use Rattle.xcf_write.specs.File.{imageSize, fileBytes}
 use Rattle.xcf_body.specs.Rows.{drawablesFrom, usedRows}
 use Rattle.xcf_write.specs.Answer.{answered, fileOf}
-use Rattle.xcf_body.specs.Parts.{Ready, endOf}
+use Rattle.xcf_body.specs.Parts.{endOf}
 use Rattle.xcf_write.specs.Parts.{Fitted}
 use Rattle.xcf_write.proofs.FileLaws.{file-length}
 use Rattle.xcf_write.proofs.Accepted.{fitted, not-fitted}
@@ -32,14 +32,14 @@ fits-room size room e =
 stored : {old bs new : List ℕ} {end : ℕ} → length bs ≤ length old → Put old 0 bs end new → new ≡ bs ++ drop (length bs) old
 stored {old} {bs} h p = p .output ∙ rw (sets-eq bs old 0 (omega arith), zero-add)
 
-module _ (c : Canvas) (table names pixels old : List ℕ) (n : ℕ) (e : n ≡ usedRows table) (r : Ready table names pixels n) {start size : ℕ}
+module _ (c : Canvas) (table names pixels old : List ℕ) (n : ℕ) (e : n ≡ usedRows table) {start size : ℕ}
     (s : start ≡ imageSize c (drawablesFrom table n 0 names pixels)) (m : size ≡ endOf (drawablesFrom table n 0 names pixels) start) where
   file-is : fileBytes c (drawablesFrom table n 0 names pixels) ≡ fileOf c table names pixels
   unfolding fileOf
   file-is = rw e
 
   size-is : size ≡ length (fileOf c table names pixels)
-  size-is = m ∙ sym (file-length table names pixels n r c start s) ∙ ap length file-is
+  size-is = m ∙ sym (file-length c (drawablesFrom table n 0 names pixels) s) ∙ ap length file-is
 
   pub fits : {a : WriteAnswer} {end : ℕ} {new : List ℕ} → (leb size (length old) && leb size fileLimit) ≡ true → a ≡ answered 0 0 size
       → Put old 0 (fileBytes c (drawablesFrom table n 0 names pixels)) end new → Fitted c table names pixels old a new

@@ -14,11 +14,16 @@ module _ (c : Canvas) (table : List ℕ) (names pixels : ℕ) {bad : ℕ} (e : b
   unfolding rowsRefusal
   bad-refused h = rw (← e, ne-eqb bad tableRows h)
 
-  module _ (good : bad ≡ tableRows) {n size : ℕ} (used : n ≡ usedRows table) (whole : size ≡ pixelsSize table n 0) where
-    pub none-refused : pixels ≡ size → answered 0 0 0 ≡ rowsRefusal c table names pixels
-    unfolding rowsRefusal
-    none-refused h = rw (← e, eq-eqb bad tableRows good, ← used, ← whole, eq-eqb pixels size h)
+-- no row is bad, and the used rows have so many bytes of pixels
+pub record Counted (c : Canvas) (table : List ℕ) (names size : ℕ) : Type 0 where
+  pub good : badRow c names table ≡ tableRows
+  pub whole : size ≡ pixelsSize table (usedRows table) 0
 
-    pub pixels-refused : (pixels ≡ size → ⊥) → answered 11 0 0 ≡ rowsRefusal c table names pixels
-    unfolding rowsRefusal
-    pixels-refused h = rw (← e, eq-eqb bad tableRows good, ← used, ← whole, ne-eqb pixels size h)
+module _ {c : Canvas} {table : List ℕ} {names pixels size : ℕ} (x : Counted c table names size) where
+  pub none-refused : pixels ≡ size → answered 0 0 0 ≡ rowsRefusal c table names pixels
+  unfolding rowsRefusal
+  none-refused h = rw (eq-eqb _ _ (x .good), ← x .whole, eq-eqb pixels size h)
+
+  pub pixels-refused : (pixels ≡ size → ⊥) → answered 11 0 0 ≡ rowsRefusal c table names pixels
+  unfolding rowsRefusal
+  pixels-refused h = rw (eq-eqb _ _ (x .good), ← x .whole, ne-eqb pixels size h)

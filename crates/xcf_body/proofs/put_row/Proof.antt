@@ -51,7 +51,7 @@ put-drawable-requires c κs =
     let m = mask a in
     let s = begin (row m) in
     rw (row-taken _ _ _ _ (row m .row-at .ensures) (m .masked .ensures))
-    (row-writable (s .pre .0 .0), (record { room = omega (arith, s .pre .1); low = omega (arith, s .pre .1) }, a .before .or-zero .ensures ∙ ap (λ (e : ℕ). cond (m .masked .result) e 0) (s .pre .1 .0)))
+    (row-writable (s .pre .0 .0), (record { room = omega (arith, s .pre .1); low = omega (arith, s .pre .1) }, a .before .or-zero .ensures .0 ∙ ap (λ (e : ℕ). cond (m .masked .result) e 0) (s .pre .1 .0)))
 
 same-length : tie.Need-same-length
 same-length c = search needs

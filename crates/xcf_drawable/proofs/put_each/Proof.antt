@@ -4,7 +4,7 @@ use mathlib.Core.Path.{_≡_}
 use native.Mathlib.Omega.{arith}
 use lib.ListN.{length, length-take, length-drop}
 use Rattle.xcf_table.specs.Table.{fileLimit}
-use Rattle.xcf_drawable.specs.Parts.{encodingOf}
+use Rattle.xcf_drawable.specs.Drawable.{encodingOf}
 use Rattle.xcf_drawable.proofs.EncodingBound.{few, tiled}
 use Rattle.xcf_drawable.proofs.TilesStored.{Storing, storing-start, next-room, next-tile, storing-tile, storing-behind, storing-over}
 use Rattle.xcf_drawable.proofs.put_each.Statement.{statement}
@@ -27,20 +27,20 @@ turn c = c .before .before
 abbrev head : tie.Then1 Inv-loop μ-loop → tie.At-loop Inv-loop μ-loop
 head c = c .before .before
 
-abbrev begin : tie.Then1 Inv-loop μ-loop → tie.Start Inv-loop μ-loop
-begin c = head c .before .before .before .before
+abbrev begin : tie.At-loop Inv-loop μ-loop → tie.Start Inv-loop μ-loop
+begin c = c .before .before .before .before
 
 -- the next pointer and the next encoding have room, and the encoding still with the pointer in
 abbrev size : tie.Then1 Inv-loop μ-loop → ℕ
-size c = length (encodingOf (begin c .args .row) (head c .loop .t) (begin c .args .pixels .now))
+size c = length (encodingOf (begin (head c) .args .row) (head c .loop .t) (begin (head c) .args .pixels .now))
 
 room : (c : tie.Then1 Inv-loop μ-loop) → let l = head c .loop in
     (l .at + 4 ≤ l .to) × ((l .to + size c ≤ length (l .output)) × (l .to + size c ≤ fileLimit))
-room c = next-room (head c .loop .inv .0) (c .if1 .taken) (begin c .pre .1 .1)
+room c = next-room (head c .loop .inv .0) (c .if1 .taken) (begin (head c) .pre .1 .1)
 
 tile-room : (c : tie.After-put-word Inv-loop μ-loop) → head (turn c) .loop .to + size (turn c) ≤ length (c .put-word .last .0)
 tile-room c =
-    let t = turn c in next-tile (head t .loop .inv .0) (t .if1 .taken) (begin t .pre .1 .1) (c .put-word .ensures)
+    let t = turn c in next-tile (head t .loop .inv .0) (t .if1 .taken) (begin (head t) .pre .1 .1) (c .put-word .ensures)
 
 loop-holds : tie.Need-loop-holds Inv-loop μ-loop
 loop-holds c = let p = c .before .before .before .pre in (storing-start (p .1 .0), p .0 .1)
@@ -64,7 +64,7 @@ encode-one-requires : tie.Need-encode-one-requires Inv-loop μ-loop
 encode-one-requires c κs =
     let p = c .before .before .before .before in
     let t = turn p in (
-      (tiled (begin t .pre .0 .0) (t .if1 .taken), head t .loop .inv .1),
+      (tiled (begin (head t) .pre .0 .0) (t .if1 .taken), head t .loop .inv .1),
       simp (length-take, length-drop) (omega (arith, tile-room p)),
     )
 
@@ -74,7 +74,7 @@ add-to c = let e = c .before .before .before .before in omega (arith, room (turn
 add-t : tie.Need-add-t Inv-loop μ-loop
 add-t c =
     let t = turn (pointer-put (c .before .before .before .before)) in
-    omega (arith, t .if1 .taken, few (begin t .pre .0 .0 .range))
+    omega (arith, t .if1 .taken, few (begin (head t) .pre .0 .0 .range))
 
 loop-less : tie.Need-loop-less Inv-loop μ-loop
 loop-less c = omega (arith, turn (pointer-put (c .before .before .before .before)) .if1 .taken)
@@ -84,7 +84,7 @@ loop-again c =
     let e = c .before .before .before .before in
     let p = pointer-put e in
     let t = turn p in (
-      storing-tile (head t .loop .inv .0) (t .if1 .taken) (begin t .pre .1 .1) (p .put-word .ensures) (e .encode-one .ensures .0),
+      storing-tile (head t .loop .inv .0) (t .if1 .taken) (begin (head t) .pre .1 .1) (p .put-word .ensures) (e .encode-one .ensures .0),
       e .encode-one .ensures .1,
     )
 
@@ -92,7 +92,7 @@ same-length : tie.Need-same-length Inv-loop μ-loop
 same-length c = c .before .before .loop .inv .0 .same
 
 same-length-2 : tie.Need-same-length-2 Inv-loop μ-loop
-same-length-2 c = omega (arith, c .before .before .loop .inv .1, c .before .before .before .before .before .before .pre .0 .1)
+same-length-2 c = omega (arith, c .before .before .loop .inv .1, begin (c .before .before) .pre .0 .1)
 
 returns : tie.Need-returns Inv-loop μ-loop
 returns c =

@@ -26,7 +26,7 @@ add-result-2 c = search needs
 
 returns : tie.Need-returns
 returns c =
-    let long = image-length _ _ _ _ (version-old-or-new _ _ _) in
+    let long = image-length _ _ _ _ (version-old-or-new _) in
     (rw (c .before .count-kind .ensures .0, c .count-kind2 .ensures .0) (sym long), omega arith)
 
 pub image-size-spec : {M : Type 1} → statement M

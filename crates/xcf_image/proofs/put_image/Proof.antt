@@ -1,163 +1,129 @@
--- `put_image` meets its contract: the parts one behind the other, of which each leaves room for the others (`image-parts`).
+-- `put_image` meets its contract: its parts one behind the other, of which each leaves room for the others (`image-parts`).
 use Prim.Native.Nat.{ℕ, _+_}
-use mathlib.Core.List.{List, [], _∷_, _++_}
+use mathlib.Core.List.{List}
 use native.Mathlib.Omega.{arith}
 use borrow.Author.Needs.{needs}
-use lib.ListN.{set, getD}
-use Rattle.xcf_parse.specs.Header.{magic, tags}
-use Rattle.xcf_store.proofs.Stores.{put-one, put-append, put-length}
-use Rattle.xcf_store.specs.Word.{words}
-use Rattle.xcf_image.specs.Parts.{kindPlaces, versionFrom}
-use Rattle.xcf_store.proofs.Room.{Fits, rest-fits}
+use lib.ListN.{set, length-append}
+use Rattle.xcf_table.specs.declared.Row.{Row}
+use Rattle.xcf_table.specs.declared.canvas.Canvas.{Canvas}
+use Rattle.xcf_store.proofs.Stores.{put-one, put-length}
+use Rattle.xcf_store.proofs.Words.{words-length}
+use Rattle.xcf_structure.proofs.PartsStored.{PartsLeft, parts-first, parts-next}
+use Rattle.xcf_image.specs.Image.{versionOf, kindPlaces, imageOf}
+use Rattle.xcf_image.specs.Parts.{rowsFrom}
 use Rattle.xcf_image.proofs.ImageLength.{version-old-or-new, tag-length}
-use Rattle.xcf_image.proofs.ImageParts.{first-fits, words-fit, layersOn, endOn, byteOn, compressionOn, sidesOn, tagOn, image-parts, image-fits}
+use Rattle.xcf_image.proofs.ImageParts.{channelsOn, layersOn, endOn, compressionOn, sidesOn, tagOn, magicOn, image-parts}
 use Rattle.xcf_image.proofs.put_image.Statement.{statement}
 use Rattle.xcf_image.proofs.put_image.Tie as tie
 
-abbrev version : tie.Start → ℕ
-version s = versionFrom (s .args .table .now) (s .args .n) 0
+-- from the place before a part is stored to the place behind the one before it
+abbrev begin : tie.After-put-bytes-arg2 → tie.Start
+begin c = c .before .before .before .before .before
 
-abbrev layers : tie.Start → List ℕ
-layers s = kindPlaces 1 (s .args .table .now) (s .args .n) 0 (s .args .places .now)
+abbrev magic-put : tie.After-new-mode → tie.After-put-bytes
+magic-put c = c .before .before .before .before
 
-abbrev channels : tie.Start → List ℕ
-channels s = kindPlaces 3 (s .args .table .now) (s .args .n) 0 (s .args .places .now)
+abbrev tag-put : tie.After-words → tie.After-put-tag
+tag-put c = c .before .before .before .before
 
--- from the place behind a part to the place behind the one before it, and to the start
-abbrev magic-start : tie.After-put-bytes → tie.Start
-magic-start c = c .before .before .before .before .before .before
+abbrev sides-put : tie.After-put-words-arg3 → tie.After-put-words
+sides-put c = c .before .before .before .before
 
-abbrev tag-magic : tie.After-put-tag → tie.After-put-bytes
-tag-magic c = c .before .before .before .before .before
+abbrev end-put : tie.After-put-pointers-arg → tie.After-put-words2
+end-put c = c .before .before .before
 
-abbrev tag-start : tie.After-put-tag → tie.Start
-tag-start c = magic-start (tag-magic c)
+abbrev layers-put : tie.After-put-pointers-arg2 → tie.After-put-pointers
+layers-put c = c .before .before .before
 
-abbrev sides-tag : tie.After-put-words → tie.After-put-tag
-sides-tag c = c .before .before .before .before .before
+-- and to the start
+abbrev tag-begin : tie.After-new-mode → tie.Start
+tag-begin c = begin (magic-put c .before)
 
-abbrev sides-start : tie.After-put-words → tie.Start
-sides-start c = tag-start (sides-tag c)
+abbrev sides-begin : tie.After-words → tie.Start
+sides-begin c = tag-begin (tag-put c .before)
 
-abbrev compression-sides : tie.After-put-words2 → tie.After-put-words
-compression-sides c = c .before .before .before .before .before
+abbrev layers-begin : tie.After-put-pointers-arg → tie.Start
+layers-begin c = sides-begin (sides-put (end-put c .before) .before)
 
-abbrev compression-start : tie.After-put-words2 → tie.Start
-compression-start c = sides-start (compression-sides c)
+-- what is left of the structure, before its first part and behind each
+abbrev rows : tie.Start → List Row
+rows s = rowsFrom (s .args .table .now) (s .args .n) 0
 
-abbrev end-compression : tie.After-put-words3 → tie.After-put-words2
-end-compression c = c .before .before .before .before .before
+abbrev Left : tie.Start → (Canvas → ℕ → List ℕ → List ℕ → List ℕ) → ℕ → List ℕ → Type 0
+Left s on next output =
+    let ps = s .args .places .now in
+    PartsLeft (s .args .output .now) 0 (imageOf (s .args .canvas) (rows s) ps)
+    (on (s .args .canvas) (versionOf (rows s)) (kindPlaces 1 (rows s) ps) (kindPlaces 3 (rows s) ps)) next output
 
-abbrev end-start : tie.After-put-words3 → tie.Start
-end-start c = compression-start (end-compression c)
+magic-left : (s : tie.Start) → Left s magicOn 0 (s .args .output .now)
+magic-left s = parts-first (image-parts _ _ _ _) (omega (arith, s .pre .1 .1))
 
-abbrev layers-end : tie.After-put-pointers → tie.After-put-words3
-layers-end c = c .before .before .before .before
+tag-left : (c : tie.After-put-bytes) → Left (begin (c .before)) tagOn (c .put-bytes .result) (c .put-bytes .last .0)
+tag-left c = parts-next (c .put-bytes .ensures) (magic-left (begin (c .before)))
 
-abbrev layers-start : tie.After-put-pointers → tie.Start
-layers-start c = end-start (layers-end c)
+sides-left : (c : tie.After-put-tag) → Left (tag-begin (c .before)) sidesOn (c .put-tag .result) (c .put-tag .last .0)
+sides-left c = parts-next (rw (c .before .new-mode .ensures) at (c .put-tag .ensures)) (tag-left (magic-put (c .before)))
 
--- room for all, and for the rest behind each part
-all-fits : (s : tie.Start) → Fits (s .args .output .now) 0 (magic ++ tagOn (s .args .canvas) (version s) (layers s) (channels s))
-all-fits s = image-fits _ _ _ _ (s .pre .1 .1)
+compression-left : (c : tie.After-put-words)
+    → Left (sides-begin (c .before)) compressionOn (c .put-words .result) (c .put-words .last .0)
+compression-left c = parts-next (c .put-words .ensures) (sides-left (tag-put (c .before)))
 
-tag-fits : (c : tie.After-put-bytes) → let s = magic-start c in
-    Fits (c .put-bytes .last .0) (c .put-bytes .result) (tagOn (s .args .canvas) (version s) (layers s) (channels s))
-tag-fits c = rest-fits (c .put-bytes .ensures) (all-fits (magic-start c))
+end-left : (c : tie.After-put-words)
+    → Left (sides-begin (c .before)) endOn (c .put-words .result + 1) (set (c .put-words .last .0) (c .put-words .result) 1)
+end-left c = parts-next (put-one _ _ 1) (compression-left c)
 
-sides-fit : (c : tie.After-put-tag) → let s = tag-start c in
-    Fits (c .put-tag .last .0) (c .put-tag .result) (sidesOn (s .args .canvas) (layers s) (channels s))
-sides-fit c = rest-fits (rw (c .before .new-mode .ensures) at (c .put-tag .ensures)) (tag-fits (tag-magic c))
+layers-left : (c : tie.After-put-words2)
+    → Left (sides-begin (sides-put (c .before) .before)) layersOn (c .put-words2 .result) (c .put-words2 .last .0)
+layers-left c = parts-next (c .put-words2 .ensures) (end-left (sides-put (c .before)))
 
-compression-fits : (c : tie.After-put-words) → let s = sides-start c in
-    Fits (c .put-words .last .0) (c .put-words .result) (compressionOn (layers s) (channels s))
-compression-fits c = rest-fits (c .put-words .ensures) (sides-fit (sides-tag c))
-
-byte-fits : (c : tie.After-put-words2) → let s = compression-start c in
-    Fits (c .put-words2 .last .0) (c .put-words2 .result) (byteOn (layers s) (channels s))
-byte-fits c = rest-fits (c .put-words2 .ensures) (compression-fits (compression-sides c))
-
-end-fits : (c : tie.After-put-words2) → let s = compression-start c in
-    Fits (set (c .put-words2 .last .0) (c .put-words2 .result) 1) (c .put-words2 .result + 1) (endOn (layers s) (channels s))
-end-fits c = rest-fits (put-one _ _ 1) (byte-fits c)
-
-layers-fit : (c : tie.After-put-words3) → let s = end-start c in
-    Fits (c .put-words3 .last .0) (c .put-words3 .result) (layersOn (layers s) (channels s))
-layers-fit c = rest-fits (c .put-words3 .ensures) (end-fits (end-compression c))
-
-channels-fit : (c : tie.After-put-pointers) → let s = layers-start c in
-    Fits (c .put-pointers .last .0) (c .put-pointers .result) (words (channels s ++ (0 ∷ [])))
-channels-fit c = rest-fits (c .put-pointers .ensures) (layers-fit (layers-end c))
+channels-left : (c : tie.After-put-pointers) → Left (layers-begin (c .before)) channelsOn (c .put-pointers .result) (c .put-pointers .last .0)
+channels-left c = parts-next (c .put-pointers .ensures) (layers-left (end-put (c .before)))
 
 slice-aggregate-put-bytes : tie.Need-slice-aggregate-put-bytes
 slice-aggregate-put-bytes c = search needs
 
 put-bytes-requires : tie.Need-put-bytes-requires
-put-bytes-requires c κs = first-fits magic _ (all-fits (c .before .before .before .before .before))
+put-bytes-requires c κs = omega (arith, magic-left (begin c) .fits .room)
 
 new-mode-requires : tie.Need-new-mode-requires
 new-mode-requires c κs = search needs
 
 put-tag-requires : tie.Need-put-tag-requires
 put-tag-requires c κs =
-    let m = c .before .before .before .before in
-    rw (tag-length (version (magic-start m)) (version-old-or-new _ _ _))
-    at (first-fits (getD tags (version (magic-start m)) []) _ (tag-fits m))
+    let known = tag-length _ (version-old-or-new (rows (tag-begin c))) in
+    omega (arith, known, rw length-append at (tag-left (magic-put c) .fits .room))
 
 slice-aggregate-put-words : tie.Need-slice-aggregate-put-words
 slice-aggregate-put-words c = search needs
 
 put-words-requires : tie.Need-put-words-requires
-put-words-requires c κs =
-    let t = c .before .before .before .before in
-    let v = tag-start t .args .canvas in
-    words-fit (v .width ∷ v .height ∷ v .base ∷ []) _ (sides-fit t)
+put-words-requires c κs = omega (arith, rw (length-append, words-length) at (sides-left (tag-put c) .fits .room))
+
+slice-write-output : tie.Need-slice-write-output
+slice-write-output c = omega (arith, compression-left (c .before .before) .fits .room)
+
+add-put-words : tie.Need-add-put-words
+add-put-words c = omega (arith, compression-left (c .before .before .before) .fits .room)
 
 slice-aggregate-put-words-2 : tie.Need-slice-aggregate-put-words-2
 slice-aggregate-put-words-2 c = search needs
 
 put-words-requires-2 : tie.Need-put-words-requires-2
-put-words-requires-2 c κs = words-fit (17 ∷ 1 ∷ []) _ (compression-fits (c .before .before .before .before))
-
-slice-write-output : tie.Need-slice-write-output
-slice-write-output c = omega (arith, first-fits (1 ∷ []) _ (byte-fits (c .before .before)))
-
-add-put-words : tie.Need-add-put-words
-add-put-words c = omega (arith, first-fits (1 ∷ []) _ (byte-fits (c .before .before .before)))
-
-slice-aggregate-put-words-3 : tie.Need-slice-aggregate-put-words-3
-slice-aggregate-put-words-3 c = search needs
-
-put-words-requires-3 : tie.Need-put-words-requires-3
-put-words-requires-3 c κs = words-fit (0 ∷ 0 ∷ []) _ (end-fits (c .before .before .before .before))
+put-words-requires-2 c κs = omega (arith, rw (length-append, words-length) at (end-left (sides-put c) .fits .room))
 
 put-pointers-requires : tie.Need-put-pointers-requires
 put-pointers-requires c κs =
-    let e = c .before .before .before in
-    let s = end-start e in
-    (s .pre .0, (s .pre .1 .0, first-fits (words (layers s ++ (0 ∷ []))) _ (layers-fit e)))
+    let s = layers-begin c in
+    (s .pre .0, (s .pre .1 .0, omega (arith, rw length-append at (layers-left (end-put c) .fits .room))))
 
 put-pointers-requires-2 : tie.Need-put-pointers-requires-2
 put-pointers-requires-2 c κs =
-    let l = c .before .before .before in
-    let s = layers-start l in
-    (s .pre .0, (s .pre .1 .0, channels-fit l .room))
+    let l = layers-put c in
+    let s = layers-begin (l .before) in
+    (s .pre .0, (s .pre .1 .0, channels-left l .fits .room))
 
 returns : tie.Need-returns
-returns c =
-    let channel = c .before .before in
-    let layer = channel .before .before .before .before in
-    let end = layers-end layer in
-    let compression = end-compression end in
-    let side = compression-sides compression in
-    let tag = sides-tag side in
-    rw image-parts
-    (put-append (tag-magic tag .put-bytes .ensures)
-    (put-append (rw (tag .before .new-mode .ensures) at (tag .put-tag .ensures))
-    (put-append (side .put-words .ensures)
-    (put-append (compression .put-words2 .ensures)
-    (put-append (put-one _ _ 1)
-    (put-append (end .put-words3 .ensures) (put-append (layer .put-pointers .ensures) (channel .put-pointers2 .ensures))))))))
+returns c = let end = c .before .before in channels-left (layers-put (end .before)) .whole _ _ (end .put-pointers2 .ensures)
 
 same-length : tie.Need-same-length
 same-length c = put-length (returns c)
@@ -172,12 +138,10 @@ put-image-spec =
     put-tag-requires
     slice-aggregate-put-words
     put-words-requires
-    slice-aggregate-put-words-2
-    put-words-requires-2
     slice-write-output
     add-put-words
-    slice-aggregate-put-words-3
-    put-words-requires-3
+    slice-aggregate-put-words-2
+    put-words-requires-2
     put-pointers-requires
     put-pointers-requires-2
     same-length

@@ -13,6 +13,16 @@ Inv-loop output₀ to table n kind places k₀ next₀ output k next = PointersL
 abbrev μ-loop : tie.MeasureT-loop
 μ-loop output₀ to table n kind places k₀ next₀ output k next = n - k
 
+-- from a place to the one before it that a need cites
+abbrev placed : tie.After-put-when-arg2 Inv-loop μ-loop → tie.After-row-at Inv-loop μ-loop
+placed c = c .before .before .before .before
+
+abbrev head : tie.After-row-at Inv-loop μ-loop → tie.At-loop Inv-loop μ-loop
+head c = c .before .before
+
+abbrev begin : tie.At-loop Inv-loop μ-loop → tie.Start Inv-loop μ-loop
+begin c = c .before .before .before .before
+
 loop-holds : tie.Need-loop-holds Inv-loop μ-loop
 loop-holds c = pointers-first _ _ _ _ _ _
 
@@ -30,17 +40,16 @@ shared-slice-read-place c = omega arith
 
 cast-place-2 : tie.Need-cast-place-2 Inv-loop μ-loop
 cast-place-2 c =
-    let l = c .before .before .before in
-    omega (arith, l .before .before .before .before .pre .1 .0 (l .loop .k) (c .before .before .loop-test .taken))
+    let l = head (c .before) in
+    omega (arith, begin l .pre .1 .0 (l .loop .k) (c .before .before .loop-test .taken))
 
 slice-aggregate-put-when : tie.Need-slice-aggregate-put-when Inv-loop μ-loop
 slice-aggregate-put-when c = search needs
 
 put-when-requires : tie.Need-put-when-requires Inv-loop μ-loop
 put-when-requires c κs =
-    let u = c .before .before .before .before in
-    pointers-room (u .before .before .loop .inv) (u .before .loop-test .taken) (u .row-at .ensures)
-    (u .before .before .before .before .before .before .pre .1 .1)
+    let u = placed c in
+    pointers-room (head u .loop .inv) (u .before .loop-test .taken) (u .row-at .ensures) (begin (head u) .pre .1 .1)
 
 add-k : tie.Need-add-k Inv-loop μ-loop
 add-k c = omega arith
@@ -51,13 +60,13 @@ loop-less c = omega arith
 loop-again : tie.Need-loop-again Inv-loop μ-loop
 loop-again c =
     let p = c .before .before in
-    let u = p .before .before .before .before .before in
-    pointers-next (u .before .before .loop .inv) (u .before .loop-test .taken) (u .row-at .ensures) (p .put-when .ensures)
+    let u = placed (p .before) in
+    pointers-next (head u .loop .inv) (u .before .loop-test .taken) (u .row-at .ensures) (p .put-when .ensures)
 
 put-word-requires : tie.Need-put-word-requires Inv-loop μ-loop
 put-word-requires c κs =
     let l = c .before .before in
-    pointers-end-room (l .loop .inv) (c .before .loop-test .left) (l .before .before .before .before .pre .1 .1)
+    pointers-end-room (l .loop .inv) (c .before .loop-test .left) (begin l .pre .1 .1)
 
 returns : tie.Need-returns Inv-loop μ-loop
 returns c =

@@ -3,6 +3,13 @@ use borrow.Author.Needs.{needs}
 use Rattle.xcf_image.proofs.put_tag.Statement.{statement}
 use Rattle.xcf_image.proofs.put_tag.Tie as tie
 
+-- from the end to the test
+abbrev new : tie.After-slice-known2 → tie.Then1
+new c = c .before .before .before .before .before
+
+abbrev old : tie.After-slice-known3 → tie.Else1
+old c = c .before .before .before .before .before
+
 slice-aggregate-put-bytes : tie.Need-slice-aggregate-put-bytes
 slice-aggregate-put-bytes c = search needs
 
@@ -13,7 +20,7 @@ same-length : tie.Need-same-length
 same-length c = search needs
 
 returns : tie.Need-returns
-returns c = rw (c .before .before .before .before .before .if1 .taken) (c .before .before .put-bytes .ensures)
+returns c = rw (new c .if1 .taken) (c .before .before .put-bytes .ensures)
 
 slice-aggregate-put-bytes-2 : tie.Need-slice-aggregate-put-bytes-2
 slice-aggregate-put-bytes-2 c = search needs
@@ -25,7 +32,7 @@ same-length-2 : tie.Need-same-length-2
 same-length-2 c = search needs
 
 returns-2 : tie.Need-returns-2
-returns-2 c = rw (c .before .before .before .before .before .if1 .left) (c .before .before .put-bytes2 .ensures)
+returns-2 c = rw (old c .if1 .left) (c .before .before .put-bytes2 .ensures)
 
 pub put-tag-spec : {M : Type 1} → statement M
 put-tag-spec =

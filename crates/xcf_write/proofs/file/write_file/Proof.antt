@@ -4,6 +4,10 @@ use borrow.Author.Needs.{needs}
 use Rattle.xcf_write.proofs.file.write_file.Statement.{statement}
 use Rattle.xcf_write.proofs.file.write_file.Tie as tie
 
+-- from the place behind the count to the start
+abbrev begin : tie.After-used-rows → tie.Start
+begin c = c .before .before .before .before .before
+
 used-rows-requires : tie.Need-used-rows-requires
 used-rows-requires c κs = search needs
 
@@ -14,7 +18,7 @@ write-within-requires : tie.Need-write-within-requires
 write-within-requires c κs =
     let u = c .before .before in
     let e = u .used-rows .ensures .0 in
-    ((rw (← e) at (u .before .before .before .before .before .pre), e), refl)
+    ((rw (← e) at (begin u .pre), e), refl)
 
 same-length : tie.Need-same-length
 same-length c = search needs

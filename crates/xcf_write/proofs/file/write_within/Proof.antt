@@ -23,7 +23,7 @@ measured c = c .before .before .before
 -- the drawables begin behind the image's structure
 start-at : (c : tie.After-measure-rows)
     → let a = begin c .args in size c .image-size .result ≡ imageSize (a .canvas) (drawablesFrom (a .table .now) (a .n) 0 (a .names .now) (a .pixels .now))
-start-at c = size c .image-size .ensures .0 ∙ sym (start-is _ _ _ _ (begin c .pre .0 .0) (begin c .args .canvas))
+start-at c = size c .image-size .ensures .0 ∙ sym (start-is _ _ _ _ (begin c .args .canvas))
 
 image-size-requires : tie.Need-image-size-requires
 image-size-requires c κs = search needs
@@ -58,7 +58,7 @@ returns c =
     let t = f .before .before .before in
     let m = measured t in
     let p = begin m .pre in
-    fits _ _ _ _ _ _ (p .0 .1) (p .0 .0) (start-at m) (m .measure-rows .ensures .0) (t .if1 .taken) (c .answered .ensures) (f .put-file .ensures)
+    fits _ _ _ _ _ _ (p .0 .1) (start-at m) (m .measure-rows .ensures .0) (t .if1 .taken) (c .answered .ensures) (f .put-file .ensures)
 
 answered-requires-2 : tie.Need-answered-requires-2
 answered-requires-2 c κs = search needs
@@ -71,7 +71,7 @@ returns-2 c =
     let t = c .before in
     let m = t .before .before .before in
     let p = begin m .pre in
-    fits-not _ _ _ _ _ _ (p .0 .1) (p .0 .0) (start-at m) (m .measure-rows .ensures .0) (t .if1 .left) (c .answered2 .ensures)
+    fits-not _ _ _ _ _ _ (p .0 .1) (start-at m) (m .measure-rows .ensures .0) (t .if1 .left) (c .answered2 .ensures)
 
 pub write-within-spec : {M : Type 1} → statement M
 write-within-spec =
