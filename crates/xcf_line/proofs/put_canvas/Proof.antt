@@ -1,9 +1,7 @@
--- `put_canvas` meets its contract: its parts stand one behind the other, by `within-append`, and there is room for all.
-use native.Mathlib.Omega.{arith}
+-- `put_canvas` meets its contract: its parts stand one behind the other, by `canvas-put`, and there is room for all.
 use borrow.Author.Needs.{needs}
-use Rattle.xcf_store.proofs.Stores.{within-append, within-more, put-length}
-use Rattle.xcf_text.specs.Text.{lineSize}
-use Rattle.xcf_line.specs.Line.{canvasLine}
+use Rattle.xcf_store.proofs.Stores.{put-length}
+use Rattle.xcf_line.proofs.Lines.{canvas-put}
 use Rattle.xcf_line.proofs.put_canvas.Statement.{statement}
 use Rattle.xcf_line.proofs.put_canvas.Tie as tie
 
@@ -57,15 +55,10 @@ put-last-requires : tie.Need-put-last-requires
 put-last-requires c κs = search needs
 
 returns : tie.Need-returns
-unfolding canvasLine
 returns c =
     let rows = c .before .before in
-    within-more lineSize (omega arith)
-    (within-append (width rows .put-labelled .ensures)
-    (within-append (height rows .put-spaced .ensures)
-    (within-append (base rows .put-labelled2 .ensures)
-    (within-append (version rows .put-labelled3 .ensures)
-    (within-append (compression rows .put-labelled4 .ensures) (rows .put-last .ensures))))))
+    canvas-put _ (width rows .put-labelled .ensures) (height rows .put-spaced .ensures) (base rows .put-labelled2 .ensures)
+    (version rows .put-labelled3 .ensures) (compression rows .put-labelled4 .ensures) (rows .put-last .ensures)
 
 same-length : tie.Need-same-length
 same-length c = put-length (returns c .put)

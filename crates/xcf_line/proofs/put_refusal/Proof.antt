@@ -1,9 +1,6 @@
--- `put_refusal` meets its contract: the place behind the number, by `within-append`, and there is room for both.
-use native.Mathlib.Omega.{arith}
+-- `put_refusal` meets its contract: the place behind the number, by `refusal-put`, and there is room for both.
 use borrow.Author.Needs.{needs}
-use Rattle.xcf_store.proofs.Stores.{within-append, within-more}
-use Rattle.xcf_text.specs.Text.{lineSize}
-use Rattle.xcf_line.specs.Line.{refusedLine}
+use Rattle.xcf_line.proofs.Lines.{refusal-put}
 use Rattle.xcf_line.proofs.put_refusal.Statement.{statement}
 use Rattle.xcf_line.proofs.put_refusal.Tie as tie
 
@@ -27,10 +24,7 @@ same-length : tie.Need-same-length
 same-length c = search needs
 
 returns : tie.Need-returns
-unfolding refusedLine
-returns c =
-    let place = c .before .before in
-    within-more lineSize (omega arith) (within-append (number place .put-labelled .ensures) (place .put-last .ensures))
+returns c = let place = c .before .before in refusal-put _ _ (number place .put-labelled .ensures) (place .put-last .ensures)
 
 pub put-refusal-spec : {M : Type 1} → statement M
 put-refusal-spec =

@@ -1,11 +1,7 @@
--- `put_row` meets its contract: its parts stand one behind the other, by `within-append`; the row's kind and fields are those that the
+-- `put_row` meets its contract: its parts stand one behind the other, by `row-put`; the row's kind and fields are those that the
 -- table has there.
-use lib.ListN.{length-take}
-use native.Mathlib.Omega.{arith}
 use borrow.Author.Needs.{needs}
-use Rattle.xcf_store.proofs.Stores.{within-append, within-more}
-use Rattle.xcf_text.specs.Text.{lineSize}
-use Rattle.xcf_row_line.proofs.Row.{row-line}
+use Rattle.xcf_row_line.proofs.Row.{row-put}
 use Rattle.xcf_row_line.proofs.put_row.Statement.{statement}
 use Rattle.xcf_row_line.proofs.put_row.Tie as tie
 
@@ -70,11 +66,8 @@ same-length c = search needs
 returns : tie.Need-returns
 returns c =
     let marked = c .before .before in
-    rw (row-line _ _ _ (start marked .pre .1))
-    (within-more lineSize (simp length-take (omega arith))
-    (within-append (number marked .put-decimal .ensures)
-    (within-append (kind marked .put-kind .ensures)
-    (within-append (fields marked .put-all .ensures) (marked .put-last .ensures)))))
+    row-put _ _ _ (start marked .pre .1) (number marked .put-decimal .ensures) (kind marked .put-kind .ensures)
+    (fields marked .put-all .ensures) (marked .put-last .ensures)
 
 pub put-row-spec : {M : Type 1} → statement M
 put-row-spec =
