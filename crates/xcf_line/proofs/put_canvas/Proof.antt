@@ -5,7 +5,7 @@ use Rattle.xcf_line.proofs.Lines.{canvas-put}
 use Rattle.xcf_line.proofs.put_canvas.Statement.{statement}
 use Rattle.xcf_line.proofs.put_canvas.Tie as tie
 
--- from the place behind the last part to the places behind the others
+-- from the place behind the last part to the places behind the others, and to the start
 abbrev compression : tie.After-put-last → tie.After-put-labelled4
 compression c = c .before .before .before .before .before
 
@@ -20,6 +20,9 @@ height c = base c .before .before .before .before .before
 
 abbrev width : tie.After-put-last → tie.After-put-labelled
 width c = height c .before .before .before .before
+
+abbrev start : tie.After-put-last → tie.Start
+start c = width c .before .before .before .before
 
 slice-aggregate-put-labelled : tie.Need-slice-aggregate-put-labelled
 slice-aggregate-put-labelled c = search needs
@@ -57,8 +60,8 @@ put-last-requires c κs = search needs
 returns : tie.Need-returns
 returns c =
     let rows = c .before .before in
-    canvas-put _ (width rows .put-labelled .ensures) (height rows .put-spaced .ensures) (base rows .put-labelled2 .ensures)
-    (version rows .put-labelled3 .ensures) (compression rows .put-labelled4 .ensures) (rows .put-last .ensures)
+    canvas-put (start rows .args .answer) (width rows .put-labelled .ensures) (height rows .put-spaced .ensures)
+    (base rows .put-labelled2 .ensures) (version rows .put-labelled3 .ensures) (compression rows .put-labelled4 .ensures) (rows .put-last .ensures)
 
 same-length : tie.Need-same-length
 same-length c = put-length (returns c .put)
