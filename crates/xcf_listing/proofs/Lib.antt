@@ -1,3 +1,3 @@
+pub mod Marked
 pub mod RowLines
 pub mod Listed
-pub mod Marked

@@ -3,17 +3,20 @@
 -- has none, and so no marked tile.
 -- Assumes nothing.
 use mathlib.Core.Path.{_≡_, refl, sym, ap, _∙_}
-use mathlib.Core.List.{List, [], _++_}
+use mathlib.Core.List.{List, []}
 use mathlib.Core.Bool.{Bool, true, false, cond}
 use mathlib.Core.Logic.{⊎-elim}
-use Prim.Native.Nat.{ℕ, _≤_, _<_}
+use Prim.Native.Nat.{ℕ, _*_, _≤_, _<_}
 use native.Mathlib.Nat.{zero-add}
 use native.Mathlib.Omega.{arith}
 use borrow.Author.Tests.{le-leb, lt-leb, eq-eqb, ne-eqb}
 use lib.Dec.{leb, eqb}
 use lib.ListN.{length, length-append}
-use lib.Seq.{take-length, length-take-le}
+use lib.Seq.{sets-eq, length-take-le}
 use Rattle.io.specs.Counts.{Counts}
+use Rattle.xcf_store.specs.Put.{PutWithin}
+use Rattle.xcf_store.proofs.Stores.{within-append, within-more}
+use Rattle.xcf_text.specs.Text.{lineSize}
 use Rattle.xcf_walk.specs.Walk.{Outcome, got, refused, run}
 use Rattle.xcf_laws.proofs.Cases.{below-or, by-cases}
 use Rattle.xcf_table.specs.Table.{tableSize, rowAt, fileLimit}
@@ -26,7 +29,6 @@ use Rattle.xcf_read_laws.proofs.Accepts.{Accepts, accepts}
 use Rattle.xcf_listing.specs.declared.ListAnswer.{ListAnswer}
 use Rattle.xcf_listing.specs.Listing.{textSize, rowLines, linesOf, markedTiles, listLimit, readingWithin, listing, written, answerOf, listAnswer, tableAfter, Lists, Prints}
 use Rattle.xcf_line.specs.Line.{canvasLine, refusedLine}
-use Rattle.xcf_text.specs.Parts.{Puts}
 
 -- row 128 would be an unused row, of kind 0
 no-row : (table : List ℕ) → length table ≡ tableSize → rowAt table 128 .kind ≡ 0
@@ -85,44 +87,50 @@ module _ (limit : ℕ) (file table text : List ℕ) where
   lists-none short e = record { answer = rw (lt-leb _ _ short) e; text = rw (e, lt-leb _ _ short); table = rw (lt-leb _ _ short) }
 
   -- the listing of a reading, put at the text's start
-  module _ (room : textSize ≤ length text) {m end : ℕ} {new : List ℕ} where
+  module _ (room : textSize ≤ length text) {end : ℕ} {new : List ℕ} where
     lists-put : {x : Reading} {marked : ℕ} → readingWithin limit file table ≡ x
-        → marked ≡ markedTiles file (x .table) (x .answer .compression) 0 (x .answer .rows) → Puts text 0 (linesOf file x) m end new
+        → marked ≡ markedTiles file (x .table) (x .answer .compression) 0 (x .answer .rows) → PutWithin text 0 (linesOf file x) textSize end new
         → Lists limit file table text (record { number = x .answer .number; place = x .answer .place; marked = marked; length = end }) (x .table) new
     unfolding written listing tableAfter listAnswer answerOf
-    lists-put e d p = record {
-      answer = rw (le-leb _ _ room, e, d, p .behind, zero-add);
-      text = rw (le-leb _ _ room, e, p .behind) (p .text ∙ rw (take-length, zero-add));
+    lists-put {x} e d p = record {
+      answer = rw (le-leb _ _ room, e, d, p .put .behind, zero-add);
+      text = rw (le-leb _ _ room, e, p .put .behind) (p .put .output ∙ sets-eq (linesOf file x) text 0 (omega (arith, p .few)));
       table = rw (le-leb _ _ room, e);
     }
 
     -- too long a file
-    pub lists-long : {r : ListAnswer} → limit < length file → Puts text 0 (refusedLine 15 0) m end new
+    pub lists-long : {r : ListAnswer} → limit < length file → PutWithin text 0 (refusedLine 15 0) lineSize end new
         → r ≡ record { number = 15; place = 0; marked = 0; length = end } → Lists limit file table text r table new
     unfolding readingWithin markedTiles linesOf
-    lists-long long p e = rw e (lists-put {x = record { answer = refusal 15 0; table = table }} (rw (lt-leb _ _ long)) refl p)
+    lists-long long p e =
+        rw e
+        (lists-put {x = record { answer = refusal 15 0; table = table }} (rw (lt-leb _ _ long)) refl (within-more textSize (omega arith) p))
 
     -- what the reader answered
     module _ (short : length file ≤ limit) {a : ReadAnswer} {after : List ℕ} (read : Read file table a after) where
-      pub lists-refused : {r : ListAnswer} → (a .number ≡ 0 → ⊥) → Puts text 0 (refusedLine (a .number) (a .place)) m end new
+      pub lists-refused : {r : ListAnswer} → (a .number ≡ 0 → ⊥) → PutWithin text 0 (refusedLine (a .number) (a .place)) lineSize end new
           → r ≡ record { number = a .number; place = a .place; marked = 0; length = end } → Lists limit file table text r after new
       unfolding markedTiles linesOf
       lists-refused n p e =
           let none = no-rows file table (rw (read .answer) at n) in
-          rw (e, read .answer, read .table) (lists-put (within limit file table short) (rw none) (rw (← read .answer, ne-eqb _ _ n) p))
+          rw (e, read .answer, read .table)
+          (lists-put (within limit file table short) (rw none) (rw (← read .answer, ne-eqb _ _ n) (within-more textSize (omega arith) p)))
 
-      pub lists-accepted : {marked : ℕ} → a .number ≡ 0 → marked ≡ markedTiles file after (a .compression) 0 (a .rows)
-          → Puts text 0 (canvasLine a ++ rowLines file after (a .compression) 0 (a .rows)) m end new
+      -- the canvas's line, and the rows' behind it
+      pub lists-accepted : {marked at : ℕ} {mid : List ℕ} → a .number ≡ 0 → marked ≡ markedTiles file after (a .compression) 0 (a .rows)
+          → PutWithin text 0 (canvasLine a) lineSize at mid
+          → PutWithin mid at (rowLines file after (a .compression) 0 (a .rows)) (lineSize * a .rows) end new
           → Lists limit file table text (record { number = 0; place = 0; marked = marked; length = end }) after new
       unfolding linesOf
-      lists-accepted {marked} n d p =
+      lists-accepted {marked} n d p q =
           let x = reading file table in
           let number = rw (read .answer) at n in
           let answer : ListAnswer = record { number = 0; place = 0; marked = marked; length = end } in
           let same : answer ≡ record { number = x .answer .number; place = x .answer .place; marked = marked; length = end } =
           rw (number, no-place file table number) in
+          let all = within-more textSize (omega (arith, listable file table read n .few)) (within-append p q) in
           rw (same, read .table)
-          (lists-put (within limit file table short) (rw (← read .answer, ← read .table) d) (rw (← read .answer, ← read .table, eq-eqb _ _ n) p))
+          (lists-put (within limit file table short) (rw (← read .answer, ← read .table) d) (rw (← read .answer, ← read .table, eq-eqb _ _ n) all))
 
 -- the length answered is that of what is written
 answer-length : (limit : ℕ) (file table : List ℕ) (room : ℕ) → listAnswer limit file table room .length ≡ length (written limit file table room)

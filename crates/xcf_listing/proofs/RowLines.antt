@@ -1,18 +1,28 @@
--- The lines of a table's rows: one row's line more behind those before it.
+-- The lines of a table's rows, put one behind the other, and their marked tiles counted: what a loop over the rows has done, and that
+-- it has room for the next line. A row's line stands behind those of the rows before it.
 -- Assumes nothing.
 use mathlib.Core.Path.{_≡_, sym, ap, _∙_}
 use mathlib.Core.List.{List, _++_, append-assoc, append-nil}
-use Prim.Native.Nat.{ℕ, zero, suc, _+_, _*_, _≤_}
+use Prim.Native.Nat.{ℕ, zero, suc, _+_, _*_, _≤_, _<_}
 use native.Mathlib.Nat.{add-zero, zero-add}
 use native.Mathlib.Numerals.{add-one}
 use native.Mathlib.Omega.{arith}
 use lib.ListN.{length}
 use Rattle.xcf_store.specs.Pointer.{pointerSize}
+use Rattle.xcf_store.specs.Put.{PutWithin}
+use Rattle.xcf_store.proofs.Stores.{put-nothing, put-length, within-next}
+use Rattle.xcf_store.proofs.Room.{within-room}
+use Rattle.xcf_text.specs.Text.{lineSize}
 use Rattle.xcf_decode.specs.Answer.{counting}
 use Rattle.xcf_row_line.specs.RowLine.{rowLine}
-use Rattle.xcf_listing.specs.Listing.{rowLines}
-use Rattle.xcf_text.specs.Parts.{lineSize, Puts}
-use Rattle.xcf_text.proofs.Written.{puts-none, puts-few, puts-then}
+use Rattle.xcf_listing.specs.Listing.{rowLines, markedTiles}
+use Rattle.xcf_listing.proofs.Marked.{tiles-few, tiles-start, tiles-turn}
+
+-- the first k of so many rows are listed
+pub record RowsListed (file table : List ℕ) (compression rows : ℕ) (start : List ℕ) (at k end marked : ℕ) (text : List ℕ) : Type 0 where
+  pub inside : k ≤ rows
+  pub lines : PutWithin start at (rowLines file table compression 0 k) (lineSize * k) end text
+  pub tiles : marked ≡ markedTiles file table compression 0 k
 
 module _ (file table : List ℕ) (compression : ℕ) where
   abbrev line : ℕ → List ℕ
@@ -28,14 +38,34 @@ module _ (file table : List ℕ) (compression : ℕ) where
       ap (λ (r : List ℕ). line k ++ r) (rows-next (k + 1) n) ∙ sym (append-assoc (line k) front (line (k + 1 + n)))
       ∙ ap (λ (j : ℕ). line k ++ front ++ line j) last
 
-  -- before the first turn
-  pub rows-start : (l : List ℕ) (at : ℕ) → Puts l at (rowLines file table compression 0 0) 0 at l
-  unfolding rowLines
-  rows-start l at = puts-none l at
+  rows-more : (k : ℕ) → rowLines file table compression 0 (k + 1) ≡ rowLines file table compression 0 k ++ line k
+  rows-more k = rw (add-one, rows-next 0 k, zero-add)
 
-  -- a turn
-  pub rows-turn : {l : List ℕ} {at : ℕ} (k : ℕ) {next : ℕ} {text : List ℕ} {marked end : ℕ} {new : List ℕ}
-      → Puts l at (rowLines file table compression 0 k) (lineSize * k) next text → at + lineSize * (k + 1) ≤ length l
-      → marked ≡ counting pointerSize file table k compression .marked → Puts text next (rowLine table k marked) lineSize end new
-      → Puts l at (rowLines file table compression 0 (k + 1)) (lineSize * (k + 1)) end new
-  rows-turn k p room e q = rw (add-one, rows-next 0 k, zero-add, ← e) (puts-few (puts-then p (omega arith) (λ r. q)) _ (omega arith))
+  no-lines : (l : List ℕ) (at : ℕ) → PutWithin l at (rowLines file table compression 0 0) 0 at l
+  unfolding rowLines
+  no-lines l at = record { put = put-nothing l at; few = omega arith }
+
+  pub rows-start : (rows : ℕ) (l : List ℕ) (at : ℕ) → RowsListed file table compression rows l at 0 at 0 l
+  rows-start rows l at = record { inside = omega arith; lines = no-lines l at; tiles = tiles-start file table compression }
+
+module _ {file table : List ℕ} {compression rows : ℕ} {start : List ℕ} {at k end marked : ℕ} {text : List ℕ} (l : RowsListed file table compression rows start at k end marked text) where
+  pub rows-room : at + lineSize * rows ≤ length start → k < rows → end + lineSize ≤ length text
+  rows-room room h = within-room lineSize (l .lines) (omega arith)
+
+  -- the marked tiles, with this row's, are few
+  pub rows-few : {n : ℕ} → n ≡ counting pointerSize file table k compression .marked → marked + n ≤ 65536 * (k + 1)
+  rows-few e = omega (arith, tiles-turn file table compression k (l .tiles) e, tiles-few file table compression 0 (k + 1))
+
+  pub rows-turn : {n end′ : ℕ} {text′ : List ℕ} → k < rows → n ≡ counting pointerSize file table k compression .marked → PutWithin text end (rowLine table k n) lineSize end′ text′ → RowsListed file table compression rows start at (k + 1) end′ (marked + n) text′
+  rows-turn h e q = record {
+    inside = omega arith;
+    lines = rw (rows-more file table compression k, ← e) (within-next k (l .lines) q);
+    tiles = tiles-turn file table compression k (l .tiles) e;
+  }
+
+  pub rows-whole : rows ≤ k → PutWithin start at (rowLines file table compression 0 rows) (lineSize * rows) end text × (marked ≡ markedTiles file table compression 0 rows)
+  rows-whole h = let all : k ≡ rows = omega (arith, l .inside) in (rw all at (l .lines), rw all at (l .tiles))
+
+  -- as long as it was
+  pub rows-length : length text ≡ length start
+  rows-length = put-length (l .lines .put)

@@ -9,7 +9,7 @@ use Rattle.xcf_store.specs.Pointer.{pointerSize}
 use Rattle.xcf_read.specs.Answer.{refusal, Reading, reading, refusals}
 use Rattle.xcf_decode.specs.Answer.{counting}
 use Rattle.xcf_listing.specs.declared.ListAnswer.{ListAnswer}
-use Rattle.xcf_line.specs.Line.{compression, refusedLine, canvasLine}
+use Rattle.xcf_line.specs.Line.{refusedLine, canvasLine}
 use Rattle.xcf_row_line.specs.RowLine.{rowLine}
 
 -- n rows from row k on

@@ -2,9 +2,10 @@
 ghost use mathlib.Core.Path.{_≡_};
 ghost use Prim.Native.Nat.{_+_, _*_, _≤_};
 ghost use lib.ListN.{length};
+ghost use Rattle.xcf_store.specs.Put.{PutWithin};
 ghost use Rattle.xcf_table.specs.Table.{rowSize};
+ghost use Rattle.xcf_text.specs.Text.{lineSize};
 ghost use Rattle.xcf_listing.specs.Listing.{rowLines, markedTiles};
-ghost use Rattle.xcf_text.specs.Parts.{lineSize, Puts};
 use xcf_decode::count_marked;
 use xcf_row_line::put_row;
 use xcf_store::pointer::POINTER_SIZE;
@@ -25,7 +26,7 @@ pub(crate) fn put_rows(
     at: usize,
 ) -> RowsPut
     requires { ⌜ (at + lineSize * rows ≤ length (now text)) × (rowSize * rows ≤ length (now table)) ⌝ }
-    ensures { λ r. ⌜ Puts (now (text .entry)) at (rowLines (now (file .entry)) (now (table .entry)) compression 0 rows)
+    ensures { λ r. ⌜ PutWithin (now (text .entry)) at (rowLines (now (file .entry)) (now (table .entry)) compression 0 rows)
         (lineSize * rows) (r .end) (now (text .exit)) ⌝ }
     ensures { λ r. ⌜ r .marked ≡ markedTiles (now (file .entry)) (now (table .entry)) compression 0 rows ⌝ }
 {

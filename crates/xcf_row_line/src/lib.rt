@@ -1,18 +1,19 @@
 // The line of a row in a listing.
 ghost use Prim.Native.Nat.{_+_, _*_, _≤_};
 ghost use lib.ListN.{length};
+ghost use Rattle.xcf_store.specs.Put.{PutWithin};
 ghost use Rattle.xcf_table.specs.Table.{rowSize};
+ghost use Rattle.xcf_text.specs.Text.{lineSize};
 ghost use Rattle.xcf_row_line.specs.RowLine.{kindName, rowLine};
-ghost use Rattle.xcf_text.specs.Parts.{lineSize, Puts};
+use xcf_store::put::put_bytes;
 use xcf_table::ROW_SIZE;
 use xcf_text::put_all;
-use xcf_text::put_bytes;
 use xcf_text::put_decimal;
-use xcf_text::put_spaced;
+use xcf_text::put_last;
 
 fn put_kind(text: &mut [u8], at: usize, kind: u32) -> usize
     requires { ⌜ at + 8 ≤ length (now text) ⌝ }
-    ensures { λ r. ⌜ Puts (now (text .entry)) at (kindName kind) 8 r (now (text .exit)) ⌝ }
+    ensures { λ r. ⌜ PutWithin (now (text .entry)) at (kindName kind) 8 r (now (text .exit)) ⌝ }
 {
     if kind == 1 {
         return put_bytes(text, at, b" layer");
@@ -26,15 +27,14 @@ fn put_kind(text: &mut [u8], at: usize, kind: u32) -> usize
 // The line of row k, of whose tiles so many are marked.
 pub fn put_row(table: &[u32], k: u32, marked: u64, text: &mut [u8], at: usize) -> usize
     requires { ⌜ (at + lineSize ≤ length (now text)) × (rowSize * (k + 1) ≤ length (now table)) ⌝ }
-    ensures { λ r. ⌜ Puts (now (text .entry)) at (rowLine (now (table .entry)) k marked) lineSize r (now (text .exit)) ⌝ }
+    ensures { λ r. ⌜ PutWithin (now (text .entry)) at (rowLine (now (table .entry)) k marked) lineSize r (now (text .exit)) ⌝ }
 {
     let start = ROW_SIZE * (k as usize);
     let fields = start + 1;
     let end = start + ROW_SIZE;
+    let kind = table[start];
     let first = put_decimal(text, at, k as u64);
-    let second = put_kind(text, first, table[start]);
+    let second = put_kind(text, first, kind);
     let third = put_all(text, second, &table[fields..end]);
-    let fourth = put_bytes(text, third, b" bad");
-    let fifth = put_spaced(text, fourth, marked);
-    put_bytes(text, fifth, b"\n")
+    put_last(text, third, b" bad", marked)
 }

@@ -3,6 +3,7 @@ pub mod Parts
 pub mod Sizes
 pub mod RisingLoop
 pub mod Risen
-pub mod Words
 pub mod Room
+pub mod Items
+pub mod Words
 pub mod SetsApart

@@ -1,15 +1,15 @@
 -- Bytes stored one after the other: what was stored in two goes, by single stores or by a copy is what `sets` stores, by
--- induction on the bytes. `Put` says it with the place behind the bytes.
+-- induction on the bytes. `Put` says it with the place behind the bytes, `PutWithin` with a bound on how many they are.
 -- Assumes nothing.
 use mathlib.Core.Path.{_≡_, refl, sym, ap, _∙_}
 use mathlib.Core.List.{List, [], _∷_, _++_, append-assoc}
-use Prim.Native.Nat.{ℕ, suc, _+_, _≤_}
-use native.Mathlib.Nat.{add-zero, zero-add}
+use Prim.Native.Nat.{ℕ, suc, _+_, _*_, _≤_}
+use native.Mathlib.Nat.{add-zero, zero-add, le-refl}
 use native.Mathlib.Numerals.{add-one, add-two}
 use native.Mathlib.Omega.{arith}
 use lib.ListN.{length, take, drop, set, length-append, length-take, length-drop, take-append-drop}
 use lib.Seq.{sets, sets-eq, length-sets, take-length, drop-drop, drop-append-le}
-use Rattle.xcf_store.specs.Put.{Put}
+use Rattle.xcf_store.specs.Put.{Put, PutWithin}
 
 -- xs and then ys
 pub sets-append : (l : List ℕ) (i : ℕ) (xs ys : List ℕ) → sets l i (xs ++ ys) ≡ sets (sets l i xs) (i + length xs) ys
@@ -45,12 +45,31 @@ put-two l to a b = record { behind = refl; output = rw add-one }
 pub put-three : (l : List ℕ) (to a b c : ℕ) → Put l to (a ∷ b ∷ c ∷ []) (to + 3) (set (set (set l to a) (to + 1) b) (to + 2) c)
 put-three l to a b c = record { behind = refl; output = rw (add-one, add-two) }
 
+-- nothing
+pub put-nothing : (l : List ℕ) (to : ℕ) → Put l to [] to l
+put-nothing l to = record { behind = rw add-zero; output = refl }
+
 -- xs, and ys behind them
 pub put-append : {old : List ℕ} {to : ℕ} {xs : List ℕ} {r : ℕ} {mid : List ℕ} {ys : List ℕ} {r′ : ℕ} {new : List ℕ} → Put old to xs r mid → Put mid r ys r′ new → Put old to (xs ++ ys) r′ new
 put-append {old} {to} {xs} {r} {mid} {ys} p q = record {
   behind = q .behind ∙ rw (p .behind, length-append) (omega arith);
   output = q .output ∙ rw (p .behind, p .output, sets-append);
 }
+
+-- the same of bytes with bounds: the bounds are added
+pub within-append : {old : List ℕ} {to : ℕ} {xs : List ℕ} {m r : ℕ} {mid : List ℕ} {ys : List ℕ} {n r′ : ℕ} {new : List ℕ} → PutWithin old to xs m r mid → PutWithin mid r ys n r′ new → PutWithin old to (xs ++ ys) (m + n) r′ new
+within-append p q = record { put = put-append (p .put) (q .put); few = rw length-append (omega (arith, p .few, q .few)) }
+
+-- bytes are put within their own number, and within any larger bound
+pub put-within : {old : List ℕ} {to : ℕ} {bs : List ℕ} {r : ℕ} {new : List ℕ} → Put old to bs r new → PutWithin old to bs (length bs) r new
+put-within p = record { put = p; few = le-refl _ }
+
+pub within-more : {old : List ℕ} {to : ℕ} {bs : List ℕ} {m r : ℕ} {new : List ℕ} (n : ℕ) → m ≤ n → PutWithin old to bs m r new → PutWithin old to bs n r new
+within-more n h p = record { put = p .put; few = omega (arith, p .few) }
+
+-- one part more behind i parts of at most m bytes each
+pub within-next : {old : List ℕ} {to : ℕ} {xs : List ℕ} {m r : ℕ} {mid : List ℕ} {ys : List ℕ} {r′ : ℕ} {new : List ℕ} (i : ℕ) → PutWithin old to xs (m * i) r mid → PutWithin mid r ys m r′ new → PutWithin old to (xs ++ ys) (m * (i + 1)) r′ new
+within-next i p q = within-more _ (omega arith) (within-append p q)
 
 -- bytes put at the start of the part of k bytes from a on are put from a on
 pub put-part : {l : List ℕ} {a k : ℕ} {bs : List ℕ} {r : ℕ} {part : List ℕ} → Put (take k (drop a l)) 0 bs r part → a + k ≤ length l → length bs ≤ k → Put l a bs (a + r) (take a l ++ (part ++ drop k (drop a l)))

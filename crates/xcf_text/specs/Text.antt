@@ -1,4 +1,4 @@
--- Numbers and words as text, in ASCII.
+-- Numbers as text, in ASCII, and the ends of lines.
 use Prim.Native.Nat.{ℕ, zero, suc, _+_, _/_, _%_}
 use mathlib.Core.List.{List, [], _∷_, _++_}
 use mathlib.Core.Bool.{cond}
@@ -22,7 +22,10 @@ decimal n = decimalWithin n n
 unfoldable pub spaced : ℕ → List ℕ
 spaced n = space ++ decimal n
 
--- numbers, each behind a space
-unfoldable pub spacedAll : List ℕ → List ℕ
-spacedAll [] = []
-spacedAll (n ∷ ns) = spaced n ++ spacedAll ns
+-- the same behind a label
+abbrev pub labelled : List ℕ → ℕ → List ℕ
+labelled label n = label ++ spaced n
+
+-- room for any line
+abbrev pub lineSize : ℕ
+lineSize = 400

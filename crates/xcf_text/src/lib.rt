@@ -1,21 +1,15 @@
 // Words and numbers put into a text.
 ghost use mathlib.Core.Path.{_≡_};
+ghost use mathlib.Core.List.{_++_, flatMap};
 ghost use Prim.Native.Nat.{_+_, _*_, _≤_};
 ghost use lib.ListN.{length};
-ghost use Rattle.xcf_text.specs.Text.{decimal, spaced, spacedAll};
-ghost use Rattle.xcf_text.specs.Parts.{Puts};
-
-pub fn put_bytes(text: &mut [u8], at: usize, bytes: &[u8]) -> usize
-    requires { ⌜ at + length (now bytes) ≤ length (now text) ⌝ }
-    ensures { λ r. ⌜ Puts (now (text .entry)) at (now (bytes .entry)) (length (now (bytes .entry))) r (now (text .exit)) ⌝ }
-{
-    bytes::copy(bytes, &mut text[at..]);
-    at + bytes.len()
-}
+ghost use Rattle.xcf_store.specs.Put.{PutWithin};
+ghost use Rattle.xcf_text.specs.Text.{newline, decimal, spaced, labelled};
+use xcf_store::put::put_bytes;
 
 pub fn put_decimal(text: &mut [u8], at: usize, n: u64) -> usize
     requires { ⌜ at + 20 ≤ length (now text) ⌝ }
-    ensures { λ r. ⌜ Puts (now (text .entry)) at (decimal n) 20 r (now (text .exit)) ⌝ }
+    ensures { λ r. ⌜ PutWithin (now (text .entry)) at (decimal n) 20 r (now (text .exit)) ⌝ }
 {
     let mut digits = [0u8; 20];
     let count = io::decimal(n, &mut digits);
@@ -25,16 +19,34 @@ pub fn put_decimal(text: &mut [u8], at: usize, n: u64) -> usize
 // A space and a number.
 pub fn put_spaced(text: &mut [u8], at: usize, n: u64) -> usize
     requires { ⌜ at + 21 ≤ length (now text) ⌝ }
-    ensures { λ r. ⌜ Puts (now (text .entry)) at (spaced n) 21 r (now (text .exit)) ⌝ }
+    ensures { λ r. ⌜ PutWithin (now (text .entry)) at (spaced n) 21 r (now (text .exit)) ⌝ }
 {
     let next = put_bytes(text, at, b" ");
     put_decimal(text, next, n)
 }
 
+// A label, and a number behind a space.
+pub fn put_labelled(text: &mut [u8], at: usize, label: &[u8], n: u64) -> usize
+    requires { ⌜ at + length (now label) + 21 ≤ length (now text) ⌝ }
+    ensures { λ r. ⌜ PutWithin (now (text .entry)) at (labelled (now (label .entry)) n) (length (now (label .entry)) + 21) r (now (text .exit)) ⌝ }
+{
+    let next = put_bytes(text, at, label);
+    put_spaced(text, next, n)
+}
+
+// The same at a line's end.
+pub fn put_last(text: &mut [u8], at: usize, label: &[u8], n: u64) -> usize
+    requires { ⌜ at + length (now label) + 22 ≤ length (now text) ⌝ }
+    ensures { λ r. ⌜ PutWithin (now (text .entry)) at (labelled (now (label .entry)) n ++ newline) (length (now (label .entry)) + 22) r (now (text .exit)) ⌝ }
+{
+    let next = put_labelled(text, at, label, n);
+    put_bytes(text, next, b"\n")
+}
+
 // Numbers, each behind a space.
 pub fn put_all(text: &mut [u8], at: usize, numbers: &[u32]) -> usize
     requires { ⌜ at + 21 * length (now numbers) ≤ length (now text) ⌝ }
-    ensures { λ r. ⌜ Puts (now (text .entry)) at (spacedAll (now (numbers .entry))) (21 * length (now (numbers .entry))) r (now (text .exit)) ⌝ }
+    ensures { λ r. ⌜ PutWithin (now (text .entry)) at (flatMap spaced (now (numbers .entry))) (21 * length (now (numbers .entry))) r (now (text .exit)) ⌝ }
 {
     let mut next = at;
     let mut i = 0;

@@ -2,8 +2,8 @@
 use native.Mathlib.Omega.{arith}
 use borrow.Author.Needs.{needs}
 use borrow.Author.Tests.{eq-eqb, ne-eqb}
+use Rattle.xcf_store.proofs.Stores.{put-within, within-more}
 use Rattle.xcf_row_line.specs.RowLine.{kindName}
-use Rattle.xcf_text.proofs.Written.{puts-few}
 use Rattle.xcf_row_line.proofs.put_kind.Statement.{statement}
 use Rattle.xcf_row_line.proofs.put_kind.Tie as tie
 
@@ -19,7 +19,8 @@ same-length c = search needs
 returns : tie.Need-returns
 unfolding kindName
 returns c =
-    rw (eq-eqb _ 1 (c .before .before .before .before .before .if1 .taken)) (puts-few (c .before .before .put-bytes .ensures) 8 (omega arith))
+    let put = c .before .before in
+    rw (eq-eqb _ 1 (put .before .before .before .if1 .taken)) (within-more 8 (omega arith) (put-within (put .put-bytes .ensures)))
 
 slice-aggregate-put-bytes-2 : tie.Need-slice-aggregate-put-bytes-2
 slice-aggregate-put-bytes-2 c = search needs
@@ -33,8 +34,10 @@ same-length-2 c = search needs
 returns-2 : tie.Need-returns-2
 unfolding kindName
 returns-2 c =
-    let test = c .before .before .before .before .before in
-    rw (ne-eqb _ 1 (test .before .if1 .left), eq-eqb _ 2 (test .if2 .taken)) (puts-few (c .before .before .put-bytes2 .ensures) 8 (omega arith))
+    let put = c .before .before in
+    let test = put .before .before .before in
+    rw (ne-eqb _ 1 (test .before .if1 .left), eq-eqb _ 2 (test .if2 .taken))
+    (within-more 8 (omega arith) (put-within (put .put-bytes2 .ensures)))
 
 slice-aggregate-put-bytes-3 : tie.Need-slice-aggregate-put-bytes-3
 slice-aggregate-put-bytes-3 c = search needs
@@ -48,8 +51,10 @@ same-length-3 c = search needs
 returns-3 : tie.Need-returns-3
 unfolding kindName
 returns-3 c =
-    let test = c .before .before .before .before .before in
-    rw (ne-eqb _ 1 (test .before .if1 .left), ne-eqb _ 2 (test .if2 .left)) (puts-few (c .before .before .put-bytes3 .ensures) 8 (omega arith))
+    let put = c .before .before in
+    let test = put .before .before .before in
+    rw (ne-eqb _ 1 (test .before .if1 .left), ne-eqb _ 2 (test .if2 .left))
+    (within-more 8 (omega arith) (put-within (put .put-bytes3 .ensures)))
 
 pub put-kind-spec : {M : Type 1} → statement M
 put-kind-spec =

@@ -1,13 +1,22 @@
--- `put_row` meets its contract: its parts stand one behind the other, by `puts-then`; the row's kind and fields are those that the
+-- `put_row` meets its contract: its parts stand one behind the other, by `row-put`; the row's kind and fields are those that the
 -- table has there.
-use lib.ListN.{length-take}
-use native.Mathlib.Omega.{arith}
 use borrow.Author.Needs.{needs}
-use Rattle.xcf_text.specs.Parts.{lineSize}
-use Rattle.xcf_row_line.proofs.Row.{row-line}
-use Rattle.xcf_text.proofs.Written.{puts-few, puts-then}
+use Rattle.xcf_row_line.proofs.Row.{row-put}
 use Rattle.xcf_row_line.proofs.put_row.Statement.{statement}
 use Rattle.xcf_row_line.proofs.put_row.Tie as tie
+
+-- from the place behind the last part to the places behind the others, and to the start
+abbrev fields : tie.After-put-last → tie.After-put-all
+fields c = c .before .before .before .before .before
+
+abbrev kind : tie.After-put-last → tie.After-put-kind
+kind c = fields c .before .before .before .before .before
+
+abbrev number : tie.After-put-last → tie.After-put-decimal
+number c = kind c .before .before .before .before
+
+abbrev start : tie.After-put-last → tie.Start
+start c = number c .before .before .before .before .before
 
 mul-start : tie.Need-mul-start
 mul-start c = search needs
@@ -18,14 +27,14 @@ add-fields c = search needs
 add-end : tie.Need-add-end
 add-end c = search needs
 
+mul-kind : tie.Need-mul-kind
+mul-kind c = search needs
+
+shared-slice-read-kind : tie.Need-shared-slice-read-kind
+shared-slice-read-kind c = search needs
+
 put-decimal-requires : tie.Need-put-decimal-requires
 put-decimal-requires c κs = search needs
-
-mul-put-kind : tie.Need-mul-put-kind
-mul-put-kind c = search needs
-
-shared-slice-read-put-kind : tie.Need-shared-slice-read-put-kind
-shared-slice-read-put-kind c = search needs
 
 put-kind-requires : tie.Need-put-kind-requires
 put-kind-requires c κs = search needs
@@ -45,42 +54,20 @@ part-put-all-end c = search needs
 put-all-requires : tie.Need-put-all-requires
 put-all-requires c κs = search needs
 
-slice-aggregate-put-bytes : tie.Need-slice-aggregate-put-bytes
-slice-aggregate-put-bytes c = search needs
+slice-aggregate-put-last : tie.Need-slice-aggregate-put-last
+slice-aggregate-put-last c = search needs
 
-put-bytes-requires : tie.Need-put-bytes-requires
-put-bytes-requires c κs = search needs
-
-put-spaced-requires : tie.Need-put-spaced-requires
-put-spaced-requires c κs = search needs
-
-slice-aggregate-put-bytes-2 : tie.Need-slice-aggregate-put-bytes-2
-slice-aggregate-put-bytes-2 c = search needs
-
-put-bytes-requires-2 : tie.Need-put-bytes-requires-2
-put-bytes-requires-2 c κs = search needs
+put-last-requires : tie.Need-put-last-requires
+put-last-requires c κs = search needs
 
 same-length : tie.Need-same-length
 same-length c = search needs
 
 returns : tie.Need-returns
 returns c =
-    let sixth = c .before .before in
-    let fifth = sixth .before .before .before .before .before in
-    let fourth = fifth .before .before .before .before in
-    let third = fourth .before .before .before .before .before in
-    let second = third .before .before .before .before .before in
-    let first = second .before .before .before .before .before in
-    let start = first .before .before .before .before in
-    rw (row-line (start .args .table .now) (start .args .k) (start .args .marked) (start .pre .1))
-    (puts-few
-    (puts-then (first .put-decimal .ensures) (simp length-take (omega arith)) λ r.
-    puts-then (second .put-kind .ensures) r λ r.
-    puts-then (third .put-all .ensures) r λ r.
-    puts-then (fourth .put-bytes .ensures) r λ r.
-    puts-then (fifth .put-spaced .ensures) r λ r.
-    sixth .put-bytes2 .ensures)
-    lineSize (simp length-take (omega arith)))
+    let marked = c .before .before in
+    row-put _ _ _ (start marked .pre .1) (number marked .put-decimal .ensures) (kind marked .put-kind .ensures)
+    (fields marked .put-all .ensures) (marked .put-last .ensures)
 
 pub put-row-spec : {M : Type 1} → statement M
 put-row-spec =
@@ -89,19 +76,16 @@ put-row-spec =
     mul-start
     add-fields
     add-end
+    mul-kind
+    shared-slice-read-kind
     put-decimal-requires
-    mul-put-kind
-    shared-slice-read-put-kind
     put-kind-requires
     mul-put-all
     sub-put-all
     part-put-all-start
     part-put-all-end
     put-all-requires
-    slice-aggregate-put-bytes
-    put-bytes-requires
-    put-spaced-requires
-    slice-aggregate-put-bytes-2
-    put-bytes-requires-2
+    slice-aggregate-put-last
+    put-last-requires
     same-length
     returns)

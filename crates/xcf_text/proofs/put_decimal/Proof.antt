@@ -4,9 +4,9 @@ use Prim.Native.Nat.{_≤_}
 use native.Mathlib.Omega.{arith}
 use borrow.Author.Needs.{needs}
 use lib.ListN.{take, length-take}
+use Rattle.xcf_store.proofs.Stores.{put-within, within-more}
 use Rattle.xcf_text.specs.Text.{decimal}
 use Rattle.xcf_text.proofs.Decimal.{fewest-decimal, few-digits}
-use Rattle.xcf_text.proofs.Written.{puts-few}
 use Rattle.xcf_text.proofs.put_decimal.Statement.{statement}
 use Rattle.xcf_text.proofs.put_decimal.Tie as tie
 
@@ -36,8 +36,9 @@ same-length c = search needs
 
 returns : tie.Need-returns
 returns c =
-    let made-at = c .before .before .before .before .before in
-    rw (made made-at) at (puts-few (c .before .before .put-bytes .ensures) 20 (simp length-take (omega (arith, few made-at))))
+    let put = c .before .before in
+    let digits = put .before .before .before in
+    rw (made digits) at (within-more 20 (simp length-take (omega (arith, few digits))) (put-within (put .put-bytes .ensures)))
 
 pub put-decimal-spec : {M : Type 1} → statement M
 put-decimal-spec =

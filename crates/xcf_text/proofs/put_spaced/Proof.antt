@@ -1,8 +1,7 @@
--- `put_spaced` meets its contract: the number behind the space, by `puts-then`.
-use native.Mathlib.Omega.{arith}
+-- `put_spaced` meets its contract: the number behind the space, by `within-append`.
 use borrow.Author.Needs.{needs}
+use Rattle.xcf_store.proofs.Stores.{put-within, within-append}
 use Rattle.xcf_text.specs.Text.{spaced}
-use Rattle.xcf_text.proofs.Written.{puts-then}
 use Rattle.xcf_text.proofs.put_spaced.Statement.{statement}
 use Rattle.xcf_text.proofs.put_spaced.Tie as tie
 
@@ -21,7 +20,9 @@ same-length c = search needs
 returns : tie.Need-returns
 unfolding spaced
 returns c =
-    puts-then (c .before .before .before .before .before .before .put-bytes .ensures) (omega arith) (λ room. c .before .before .put-decimal .ensures)
+    let number = c .before .before in
+    let space = number .before .before .before .before in
+    within-append (put-within (space .put-bytes .ensures)) (number .put-decimal .ensures)
 
 pub put-spaced-spec : {M : Type 1} → statement M
 put-spaced-spec =

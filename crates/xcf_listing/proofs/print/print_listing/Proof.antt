@@ -23,7 +23,7 @@ same-length-2 : tie.Need-same-length-2
 same-length-2 c = search needs
 
 returns : tie.Need-returns
-returns c = lists-printed (c .before .before .before .before .before .before .list .ensures .0)
+returns c = let lent = c .before .before .before in lists-printed (lent .before .before .before .list .ensures .0)
 
 pub print-listing-spec : {M : Type 1} → statement M
 print-listing-spec =

@@ -35,7 +35,9 @@ same-length : tie.Need-same-length
 same-length c = search needs
 
 returns : tie.Need-returns
-returns c = put-copy _ _ _ _ (c .before .before .before .before .before .before .pre) (c .before .before .copy .ensures .1)
+returns c =
+    let copy = c .before .before in
+    put-copy _ _ _ _ (copy .before .before .before .before .pre) (copy .copy .ensures .1)
 
 pub put-bytes-spec : {M : Type 1} → statement M
 put-bytes-spec =
