@@ -56,7 +56,10 @@ apply-left c = parts-next (c .put-words .ensures) (shown-left (active-put (c .be
 
 layer-left : (c : tie.After-put-when3) → let a = active-put (shown-put (c .before) .before) in
     Left (begin (selection-put (a .before) .before)) layerOn (c .put-when3 .result) (c .put-when3 .last .0)
-layer-left c = parts-next (c .put-when3 .ensures) (apply-left (shown-put (c .before)))
+layer-left c =
+    let a = active-put (shown-put (c .before) .before) in
+    let s = begin (selection-put (a .before) .before) in
+    parts-next {rest = layerOn (s .args .row) (s .args .masked)} (c .put-when3 .ensures) (apply-left (shown-put (c .before)))
 
 end-left : (c : tie.After-put-when4) → let a = active-put (shown-put (apply-put (c .before) .before) .before) in
     Left (begin (selection-put (a .before) .before)) endOn (c .put-when4 .result) (c .put-when4 .last .0)
