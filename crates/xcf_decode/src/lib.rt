@@ -68,9 +68,9 @@ pub fn count_marked(
     ensures { λ r. ⌜ r ≡ counting size (now (file .entry)) (now (table .entry)) k compression ⌝ }
 {
     let row = row_at(table, k);
-    let answer = drawable_refusal(file, table.len(), row, compression, size, Lent::Nothing);
-    if answer.number != 0 {
-        return answer;
+    let refused = drawable_refusal(file, table.len(), row, compression, size, Lent::Nothing);
+    if refused.number != 0 {
+        return refused;
     }
     DecodeAnswer {
         number: 0,
