@@ -1,9 +1,9 @@
 // The exported C interface.
 ghost use mathlib.Core.Path.{_≡_};
+ghost use Rattle.xcf_numbers.specs.Limit.{fileLimit};
 ghost use Rattle.xcf_tile.specs.Answer.{Decoded};
 ghost use Rattle.xcf_encode.specs.Answer.{TileEncoded};
 ghost use Rattle.xcf_store.specs.Pointer.{pointerSize};
-ghost use Rattle.xcf_table.specs.Table.{fileLimit};
 ghost use Rattle.xcf_read.specs.Answer.{Read};
 ghost use Rattle.xcf_decode.specs.Answer.{counting, DrawableDecoded};
 ghost use Rattle.xcf_write.specs.Answer.{Written};
@@ -11,9 +11,9 @@ ghost use Rattle.xcf_listing.specs.Listing.{Lists};
 use xcf_decode::DecodeAnswer;
 use xcf_encode::EncodeAnswer;
 use xcf_listing::ListAnswer;
+use xcf_numbers::limit::FILE_LIMIT;
 use xcf_read::ReadAnswer;
 use xcf_store::pointer::POINTER_SIZE;
-use xcf_table::FILE_LIMIT;
 use xcf_table::canvas::Canvas;
 use xcf_tile::TileAnswer;
 use xcf_write::WriteAnswer;

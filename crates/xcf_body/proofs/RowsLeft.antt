@@ -9,13 +9,14 @@ use native.Mathlib.Nat.{sub-zero}
 use native.Mathlib.Omega.{arith}
 use lib.ListN.{length, take, drop}
 use lib.Seq.{drop-drop}
+use Rattle.xcf_numbers.specs.Limit.{tableRows}
 use Rattle.xcf_laws.proofs.Steps.{rest-begins, rest-empty}
 use Rattle.xcf_store.proofs.Parts.{part-length}
 use Rattle.xcf_table.specs.Table.{rowAt}
 use Rattle.xcf_grid.specs.Drawn.{pixelSize, InRange}
 use Rattle.xcf_drawable.specs.Drawable.{Drawable, drawableSize}
 use Rattle.xcf_body.specs.Rows.{rowDrawable, drawablesFrom}
-use Rattle.xcf_body.specs.Parts.{RowReady, Ready, endOf}
+use Rattle.xcf_body.specs.Parts.{RowReady, Ready, endOf, pixelLimit}
 use Rattle.xcf_body.proofs.RowsLoop.{PixelsLeft, pixels-first, pixels-inside, pixels-next}
 use Rattle.xcf_body.proofs.Drawables.{end-most}
 
@@ -63,7 +64,7 @@ module _ (table names pixels : List ℕ) (n : ℕ) where
 
     -- what is asked to find where row k's pixels end
     pub row-asked : {k at to : ℕ} → RowsLeft k at to → k < n → Ready table names pixels n
-        → InRange (rowAt table k) × ((k < 128) × (at ≤ 1073741824 * k))
+        → InRange (rowAt table k) × ((k < tableRows) × (at ≤ pixelLimit * k))
     row-asked {k} g h r = (r .range k h, (omega (arith, r .few), g .pixelsLeft .most))
 
     module _ {k at to end : ℕ} (g : RowsLeft k at to) (h : k < n) (e : end ≡ at + pixelSize (rowAt table k)) where
@@ -73,7 +74,7 @@ module _ (table names pixels : List ℕ) (n : ℕ) where
       pub row-room : to + drawableSize (rowLent table names pixels k at end) ≤ endOf all start
       row-room = omega (arith, end-step, end-most (rest (k + 1) end) (to + drawableSize (rowLent table names pixels k at end)))
 
-      pub rows-next : {q : ℕ} → end ≤ 1073741824 * (k + 1) → q ≡ to + drawableSize (rowLent table names pixels k at end)
+      pub rows-next : {q : ℕ} → end ≤ pixelLimit * (k + 1) → q ≡ to + drawableSize (rowLent table names pixels k at end)
           → RowsLeft (k + 1) end q
       rows-next l m = record { pixelsLeft = pixels-next (g .pixelsLeft) h e l; end = rw m end-step }
 

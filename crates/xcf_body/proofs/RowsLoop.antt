@@ -9,9 +9,11 @@ use native.Mathlib.Nat.{sub-zero, zero-add}
 use native.Mathlib.Omega.{arith}
 use borrow.Author.Tests.{eq-eqb, ne-eqb}
 use lib.Dec.{eqb}
+use Rattle.xcf_body.specs.Parts.{pixelLimit}
+use Rattle.xcf_numbers.specs.Limit.{tableRows}
+use Rattle.xcf_numbers.specs.Kind
 use Rattle.xcf_table.specs.declared.Row.{Row}
 use Rattle.xcf_table.specs.Table.{rowAt}
-use Rattle.xcf_usable.specs.Usable.{tableRows}
 use Rattle.xcf_body.specs.Rows.{usedFrom, pixelsSize, usedRows}
 use Rattle.xcf_grid.specs.Drawn.{pixelSize}
 use Rattle.xcf_laws.proofs.Steps.{rest-begins, rest-empty}
@@ -25,15 +27,15 @@ pub used-first : (table : List ℕ) → UsedLeft table 0
 used-first table = record { few = omega arith; rest = omega arith }
 
 module _ {table : List ℕ} {k : ℕ} {r : Row} (g : UsedLeft table k) (h : k < tableRows) (e : r ≡ rowAt table k) where
-  used-step : k + cond (eqb (r .kind) 0) 0 (suc (usedFrom table (tableRows - (k + 1)) (k + 1))) ≡ usedRows table
+  used-step : k + cond (eqb (r .kind) Kind.unused) 0 (suc (usedFrom table (tableRows - (k + 1)) (k + 1))) ≡ usedRows table
   unfolding usedFrom
   used-step = rw e (rw (rest-begins tableRows k h) at (g .rest))
 
-  pub used-next : (r .kind ≡ 0 → ⊥) → UsedLeft table (k + 1)
-  used-next used = record { few = omega arith; rest = omega (arith, rw (ne-eqb (r .kind) 0 used) at used-step) }
+  pub used-next : (r .kind ≡ Kind.unused → ⊥) → UsedLeft table (k + 1)
+  used-next used = record { few = omega arith; rest = omega (arith, rw (ne-eqb (r .kind) Kind.unused used) at used-step) }
 
-  pub used-end : r .kind ≡ 0 → k ≡ usedRows table
-  used-end unused = omega (arith, rw (eq-eqb (r .kind) 0 unused) at used-step)
+  pub used-end : r .kind ≡ Kind.unused → k ≡ usedRows table
+  used-end unused = omega (arith, rw (eq-eqb (r .kind) Kind.unused unused) at used-step)
 
 pub used-all : {table : List ℕ} {k : ℕ} → UsedLeft table k → tableRows ≤ k → k ≡ usedRows table
 unfolding usedFrom
@@ -42,7 +44,7 @@ used-all {k} g h = omega (arith, rw (rest-empty tableRows k h) at (g .rest))
 -- the pixels of the rows before row k end at a place
 pub record PixelsLeft (table : List ℕ) (n k at : ℕ) : Type 0 where
   pub few : k ≤ n
-  pub most : at ≤ 1073741824 * k
+  pub most : at ≤ pixelLimit * k
   pub rest : at + pixelsSize table (n - k) k ≡ pixelsSize table n 0
 
 pub pixels-first : (table : List ℕ) (n : ℕ) → PixelsLeft table n 0 0
@@ -57,7 +59,7 @@ module _ {table : List ℕ} {n k at end : ℕ} (g : PixelsLeft table n k at) (h 
   pub pixels-inside : end ≤ pixelsSize table n 0
   pixels-inside = omega (arith, pixels-step)
 
-  pub pixels-next : end ≤ 1073741824 * (k + 1) → PixelsLeft table n (k + 1) end
+  pub pixels-next : end ≤ pixelLimit * (k + 1) → PixelsLeft table n (k + 1) end
   pixels-next l = record { few = omega arith; most = l; rest = pixels-step }
 
 pub pixels-over : {table : List ℕ} {n k at : ℕ} → PixelsLeft table n k at → n ≤ k → at ≡ pixelsSize table n 0

@@ -7,6 +7,8 @@ use native.Mathlib.Numerals.{add-one}
 use native.Mathlib.Omega.{arith}
 use lib.ListN.{length, set, length-set}
 use lib.Seq.{sets}
+use Rattle.xcf_body.specs.Parts.{pixelLimit}
+use Rattle.xcf_numbers.specs.Limit.{imageLimit, drawableLimit, placesSize}
 use Rattle.xcf_table.specs.Table.{rowAt}
 use Rattle.xcf_grid.specs.Drawn.{pixelSize}
 use Rattle.xcf_drawable.specs.Drawable.{Drawable, drawableSize}
@@ -31,10 +33,10 @@ module _ (table names pixels old : List ℕ) (n start : ℕ) where
   pub record Measuring (k at to : ℕ) (places : List ℕ) : Type 0 where
     pub rows : RowsLeft table names pixels n start k at to
     pub stored : sets places k (placesFrom (left k at) to) ≡ sets old 0 (placesFrom (all table names pixels n) start)
-    pub long : length places ≡ 129
-    pub most : to ≤ 1100 + 1100000000 * k
+    pub long : length places ≡ placesSize
+    pub most : to ≤ imageLimit + drawableLimit * k
 
-  pub measuring-first : start ≤ 1100 → length old ≡ 129 → Measuring 0 0 start old
+  pub measuring-first : start ≤ imageLimit → length old ≡ placesSize → Measuring 0 0 start old
   measuring-first h l = record {
     rows = rows-first table names pixels n start;
     stored = rw (rows-all table names pixels n);
@@ -43,8 +45,8 @@ module _ (table names pixels old : List ℕ) (n start : ℕ) where
   }
 
   module _ {k at to : ℕ} {places : List ℕ} (g : Measuring k at to places) where
-    pub measuring-next : {end r : ℕ} → k < n → end ≡ at + pixelSize (rowAt table k) → end ≤ 1073741824 * (k + 1)
-        → r ≡ drawableSize (rowLent table names pixels k at end) → r ≤ 1100000000
+    pub measuring-next : {end r : ℕ} → k < n → end ≡ at + pixelSize (rowAt table k) → end ≤ pixelLimit * (k + 1)
+        → r ≡ drawableSize (rowLent table names pixels k at end) → r ≤ drawableLimit
         → Measuring (k + 1) end (to + r) (set places k to)
     measuring-next {end} h e l m small =
         let step = rows-step table names pixels n k at end h e in

@@ -14,7 +14,7 @@ use Rattle.xcf_store.proofs.Stores.{sets-append, put-length}
 use Rattle.xcf_drawable.specs.Drawable.{Drawable, drawableSize, drawableBytes}
 use Rattle.xcf_body.specs.Rows.{drawablesBytes}
 use Rattle.xcf_grid.specs.Drawn.{pixelSize}
-use Rattle.xcf_body.specs.Parts.{Placed}
+use Rattle.xcf_body.specs.Parts.{Placed, pixelLimit}
 use Rattle.xcf_drawable.proofs.DrawableLength.{drawable-length}
 use Rattle.xcf_body.proofs.Drawables.{placed-first, placed-next}
 use Rattle.xcf_body.proofs.RowsLeft.{rowLent, all, rest, rows-all, rows-none, rows-step, RowsLeft, rows-first, rows-next}
@@ -70,7 +70,7 @@ module _ (table names pixels places old : List ℕ) (n start : ℕ) where
       pub next-place : getD places (k + 1) 0 ≡ to + drawableSize this
       next-place = placed-first places others (placed-next places this others placed-here)
 
-      pub putting-next : {q : ℕ} {new : List ℕ} → end ≤ 1073741824 * (k + 1) → Put output to (drawableBytes this to) q new
+      pub putting-next : {q : ℕ} {new : List ℕ} → end ≤ pixelLimit * (k + 1) → Put output to (drawableBytes this to) q new
           → Putting (k + 1) end q new
       putting-next {q} {new} small p =
           let l = drawable-length this to in

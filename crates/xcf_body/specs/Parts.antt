@@ -3,10 +3,15 @@ use Prim.Native.Nat.{ℕ, _+_, _≤_, _<_}
 use mathlib.Core.Path.{_≡_}
 use mathlib.Core.List.{List, [], _∷_}
 use lib.ListN.{length, take, drop}
+use Rattle.xcf_numbers.specs.Limit.{tableRows}
 use Rattle.xcf_table.specs.Table.{rowAt}
 use Rattle.xcf_drawable.specs.Drawable.{Drawable, drawableSize}
 use Rattle.xcf_grid.specs.Drawn.{InRange, Drawn}
 use Rattle.xcf_body.specs.Rows.{pixelsSize, placesFrom}
+
+-- the most bytes of a drawable's pixels
+abbrev pub pixelLimit : ℕ
+pixelLimit = 1073741824
 
 -- the first n rows of a table in range
 abbrev pub RowsInRange : List ℕ → ℕ → Type 0
@@ -19,7 +24,7 @@ pub record RowReady (table names : List ℕ) (k : ℕ) (pixels : List ℕ) : Typ
 
 -- the first n rows in range, with their names among the names, and the pixels of all of them
 pub record Ready (table names pixels : List ℕ) (n : ℕ) : Type 0 where
-  pub few : n ≤ 128
+  pub few : n ≤ tableRows
   pub range : RowsInRange table n
   pub named : (k : ℕ) → k < n → rowAt table k .name + rowAt table k .size ≤ length names
   pub whole : length pixels ≡ pixelsSize table n 0

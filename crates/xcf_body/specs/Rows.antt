@@ -3,9 +3,10 @@ use Prim.Native.Nat.{ℕ, zero, suc, _+_}
 use mathlib.Core.List.{List, [], _∷_, _++_}
 use mathlib.Core.Bool.{cond}
 use lib.ListN.{take, drop}
+use Rattle.xcf_numbers.specs.Limit.{tableRows}
 use Rattle.xcf_store.specs.Word.{part}
 use Rattle.xcf_table.specs.Table.{rowAt}
-use Rattle.xcf_usable.specs.Usable.{isUnused, masked, tableRows}
+use Rattle.xcf_usable.specs.Usable.{isUnused, masked}
 use Rattle.xcf_drawable.specs.Drawable.{Drawable, drawableSize, drawableBytes}
 use Rattle.xcf_grid.specs.Drawn.{pixelSize}
 

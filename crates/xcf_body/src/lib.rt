@@ -3,28 +3,30 @@ ghost use mathlib.Core.Path.{_≡_};
 ghost use Prim.Native.Nat.{_+_, _*_, _≤_, _<_};
 ghost use lib.ListN.{length};
 ghost use lib.Seq.{sets};
+ghost use Rattle.xcf_numbers.specs.Limit.{fileLimit, tableRows, imageLimit, drawableLimit, placesSize};
 ghost use Rattle.xcf_store.specs.Put.{Put};
-ghost use Rattle.xcf_table.specs.Table.{rowAt, fileLimit};
+ghost use Rattle.xcf_table.specs.Table.{rowAt};
 ghost use Rattle.xcf_drawable.specs.Drawable.{drawableSize, drawableBytes};
 ghost use Rattle.xcf_body.specs.Rows.{drawablesBytes, placesFrom, pixelsSize, rowDrawable, drawablesFrom, usedRows};
 ghost use Rattle.xcf_grid.specs.Drawn.{pixelSize, InRange};
-ghost use Rattle.xcf_body.specs.Parts.{RowsInRange, RowReady, Ready, endOf, Placed};
+ghost use Rattle.xcf_body.specs.Parts.{RowsInRange, RowReady, Ready, endOf, Placed, pixelLimit};
 use xcf_drawable::measure_drawable;
 use xcf_drawable::put_drawable;
+use xcf_numbers::kind;
+use xcf_numbers::limit::TABLE_ROWS;
 use xcf_structure::or_zero;
 use xcf_table::Row;
 use xcf_table::row_at;
-use xcf_usable::TABLE_ROWS;
 use xcf_usable::row::masked;
 
 // How many rows come before the first unused one.
 pub fn used_rows(table: &[u32]) -> u32
-    ensures { λ r. ⌜ (r ≡ usedRows (now (table .entry))) × (r ≤ 128) ⌝ }
+    ensures { λ r. ⌜ (r ≡ usedRows (now (table .entry))) × (r ≤ tableRows) ⌝ }
 {
     let mut k: u32 = 0;
     while k < TABLE_ROWS {
         let row = row_at(table, k);
-        if row.kind == 0 {
+        if row.kind == kind::UNUSED {
             return k;
         }
         k += 1;
@@ -35,22 +37,22 @@ pub fn used_rows(table: &[u32]) -> u32
 // How many bytes of pixels a row has.
 fn pixel_size(row: Row) -> usize
     requires { ⌜ InRange row ⌝ }
-    ensures { λ r. ⌜ (r ≡ pixelSize row) × (r ≤ 1073741824) ⌝ }
+    ensures { λ r. ⌜ (r ≡ pixelSize row) × (r ≤ pixelLimit) ⌝ }
 {
     row.width as usize * row.height as usize * row.depth as usize
 }
 
 // Where the pixels of row k end, which begin at `from`; a row has at most 1,073,741,824 bytes of them.
 fn pixels_end(table: &[u32], k: u32, from: usize) -> usize
-    requires { ⌜ InRange (rowAt (now table) k) × ((k < 128) × (from ≤ 1073741824 * k)) ⌝ }
-    ensures { λ r. ⌜ (r ≡ from + pixelSize (rowAt (now (table .entry)) k)) × (r ≤ 1073741824 * (k + 1)) ⌝ }
+    requires { ⌜ InRange (rowAt (now table) k) × ((k < tableRows) × (from ≤ pixelLimit * k)) ⌝ }
+    ensures { λ r. ⌜ (r ≡ from + pixelSize (rowAt (now (table .entry)) k)) × (r ≤ pixelLimit * (k + 1)) ⌝ }
 {
     from + pixel_size(row_at(table, k))
 }
 
 // How many bytes of pixels the first n rows have.
 pub fn pixels_size(table: &[u32], n: u32) -> usize
-    requires { ⌜ (n ≤ 128) × RowsInRange (now table) n ⌝ }
+    requires { ⌜ (n ≤ tableRows) × RowsInRange (now table) n ⌝ }
     ensures { λ r. ⌜ r ≡ pixelsSize (now (table .entry)) n 0 ⌝ }
 {
     let mut k: u32 = 0;
@@ -64,8 +66,8 @@ pub fn pixels_size(table: &[u32], n: u32) -> usize
 
 // The length of all that is stored for row k.
 fn measure_row(table: &[u32], k: u32, names: &[u8], pixels: &[u8]) -> usize
-    requires { ⌜ RowReady (now table) (now names) k (now pixels) × (k < 128) ⌝ }
-    ensures { λ r. ⌜ (r ≡ drawableSize (rowDrawable (now (table .entry)) (now (names .entry)) k (now (pixels .entry)))) × (r ≤ 1100000000) ⌝ }
+    requires { ⌜ RowReady (now table) (now names) k (now pixels) × (k < tableRows) ⌝ }
+    ensures { λ r. ⌜ (r ≡ drawableSize (rowDrawable (now (table .entry)) (now (names .entry)) k (now (pixels .entry)))) × (r ≤ drawableLimit) ⌝ }
 {
     let row = row_at(table, k);
     let name = row.name as usize;
@@ -82,8 +84,8 @@ pub fn measure_rows(
     start: usize,
     places: &mut [usize],
 ) -> usize
-    requires { ⌜ Ready (now table) (now names) (now pixels) n × (start ≤ 1100) ⌝ }
-    requires { ⌜ length (now places) ≡ 129 ⌝ }
+    requires { ⌜ Ready (now table) (now names) (now pixels) n × (start ≤ imageLimit) ⌝ }
+    requires { ⌜ length (now places) ≡ placesSize ⌝ }
     ensures { λ r. ⌜ r ≡ endOf (drawablesFrom (now (table .entry)) n 0 (now (names .entry)) (now (pixels .entry))) start ⌝ }
     ensures { λ _. ⌜ now (places .exit) ≡ sets (now (places .entry)) 0 (placesFrom (drawablesFrom (now (table .entry)) n 0 (now (names .entry)) (now (pixels .entry))) start) ⌝ }
 {
@@ -111,7 +113,7 @@ fn put_row(
     names: &[u8],
     pixels: &[u8],
 ) -> usize
-    requires { ⌜ RowReady (now table) (now names) k (now pixels) × (k < 128) ⌝ }
+    requires { ⌜ RowReady (now table) (now names) k (now pixels) × (k < tableRows) ⌝ }
     requires { ⌜ end ≡ to + drawableSize (rowDrawable (now table) (now names) k (now pixels)) ⌝ }
     requires { ⌜ (end ≤ length (now output)) × (end ≤ fileLimit) ⌝ }
     ensures { λ r. ⌜ Put (now (output .entry)) to (drawableBytes (rowDrawable (now (table .entry)) (now (names .entry)) k (now (pixels .entry))) to) r (now (output .exit)) ⌝ }
@@ -142,7 +144,7 @@ pub fn put_rows(
     pixels: &[u8],
     places: &[usize],
 ) -> usize
-    requires { ⌜ Ready (now table) (now names) (now pixels) n × (length (now places) ≡ 129) ⌝ }
+    requires { ⌜ Ready (now table) (now names) (now pixels) n × (length (now places) ≡ placesSize) ⌝ }
     requires { ⌜ Placed (now places) 0 (drawablesFrom (now table) n 0 (now names) (now pixels)) start ⌝ }
     requires { ⌜ (endOf (drawablesFrom (now table) n 0 (now names) (now pixels)) start ≤ length (now output)) × (endOf (drawablesFrom (now table) n 0 (now names) (now pixels)) start ≤ fileLimit) ⌝ }
     ensures { λ r. ⌜ Put (now (output .entry)) start (drawablesBytes (drawablesFrom (now (table .entry)) n 0 (now (names .entry)) (now (pixels .entry))) start) r (now (output .exit)) ⌝ }

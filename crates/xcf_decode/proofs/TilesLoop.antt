@@ -11,6 +11,7 @@ use native.Mathlib.Nat.{zero-add}
 use native.Mathlib.Numerals.{add-one}
 use lib.ListN.{length, take, set, length-set}
 use lib.Seq.{take-all, take-suc-set}
+use Rattle.xcf_numbers.specs.Limit.{tileSize}
 use Rattle.xcf_table.specs.declared.Row.{Row}
 use Rattle.xcf_grid.specs.Grid.{tileWidth, tileHeight}
 use Rattle.xcf_tile_laws.proofs.Pixels.{pixels-length}
@@ -41,7 +42,7 @@ module _ (size : ℕ) (f : List ℕ) (r : Row) (compression : ℕ) where
 pub record Counting (size : ℕ) (f : List ℕ) (r : Row) (compression : ℕ) (scratch : List ℕ) (t marked : ℕ) : Type 0 where
   pub inside : t ≤ r .count
   pub count : marked ≡ nonzero (tabulate t 0 (markOf size f r compression))
-  pub room : length scratch ≡ 16384
+  pub room : length scratch ≡ tileSize
 
 -- the pixels of the first t tiles are shown, and their marks set
 pub record Going (size : ℕ) (f : List ℕ) (r : Row) (compression : ℕ) (pixels marks scratch : List ℕ) (t marked : ℕ) : Type 0 where
@@ -50,12 +51,12 @@ pub record Going (size : ℕ) (f : List ℕ) (r : Row) (compression : ℕ) (pixe
   pub marksSize : length marks ≡ r .count
   pub marksSet : take t marks ≡ tabulate t 0 (markOf size f r compression)
 
-pub counting-start : {size : ℕ} {f : List ℕ} {r : Row} {compression : ℕ} {scratch : List ℕ} → length scratch ≡ 16384 → Counting size f r compression scratch 0 0
+pub counting-start : {size : ℕ} {f : List ℕ} {r : Row} {compression : ℕ} {scratch : List ℕ} → length scratch ≡ tileSize → Counting size f r compression scratch 0 0
 unfolding tabulate nonzero
 counting-start room = record { inside = omega arith; count = refl; room = room }
 
 pub going-start : {size : ℕ} {f : List ℕ} {r : Row} {compression : ℕ} {pixels marks scratch : List ℕ} → length pixels ≡ r .width * r .height * r .depth
-    → length marks ≡ r .count → length scratch ≡ 16384 → Going size f r compression pixels marks scratch 0 0
+    → length marks ≡ r .count → length scratch ≡ tileSize → Going size f r compression pixels marks scratch 0 0
 unfolding tabulate
 going-start pixels marks scratch = record { counting = counting-start scratch; shown = shown-none pixels; marksSize = marks; marksSet = refl }
 
@@ -90,7 +91,7 @@ module _ {size : ℕ} {f : List ℕ} {r : Row} {compression : ℕ} (ready : Read
   counting-few {t = t} g = (rw (g .count) (nonzero-below t (markOf size f r compression)), omega (arith, g .inside, few))
 
   module _ {pixels marks scratch : List ℕ} {t marked : ℕ} (g : Going size f r compression pixels marks scratch t marked) where
-    pub tile-placeable : t < r .count → (n : ℕ) → n ≡ 16384 → Placeable r (frameOf r t) n (length pixels)
+    pub tile-placeable : t < r .count → (n : ℕ) → n ≡ tileSize → Placeable r (frameOf r t) n (length pixels)
     tile-placeable less n room = record {
       framed =
           tile-framed (ready .usable .wide .0) (omega (arith, less, ready .usable .count)) (omega (arith, room, pixels-small ready less refl .1)) (g .shown .size);

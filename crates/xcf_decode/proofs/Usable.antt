@@ -10,9 +10,11 @@ use native.Mathlib.Omega.{arith}
 use borrow.Author.Tests.{leb-true, eqb-true, ne-eqb}
 use lib.Dec.{leb, eqb}
 use lib.ListN.{length}
+use Rattle.xcf_numbers.specs.Limit.{fileLimit, sideLimit, depthLimit, tableSize}
+use Rattle.xcf_numbers.specs.Kind
+use Rattle.xcf_numbers.specs.Refusal
 use Rattle.xcf_walk.specs.Walk.{Outcome, got, refused, run}
 use Rattle.xcf_table.specs.declared.Row.{Row}
-use Rattle.xcf_table.specs.Table.{tableSize, fileLimit}
 use Rattle.xcf_grid.specs.Grid.{tileCount}
 use Rattle.xcf_range.specs.Range.{within}
 use Rattle.xcf_range.proofs.Bounds.{within-bounds}
@@ -36,16 +38,16 @@ row-usable size fileLength n r compression e =
     let file = cond-zero (leb fileLength fileLimit) _ 15 (λ z. omega (arith, z)) (table .1) in
     let usable = and-eq-true-iff (pointerSizeOk size) _ .0 (cond-zero (usableRow size fileLength r compression) _ 14 (λ z. omega (arith, z)) (file .1) .0) in
     let row = and-eq-true-iff (inRange r) _ .0 (usable .1) in
-    let range = and-eq-true-iff (within 1 3 (r .kind)) _ .0 (row .0) in
-    let sides = and-eq-true-iff (within 1 16384 (r .width)) _ .0 (range .1) in
-    let more = and-eq-true-iff (within 1 16384 (r .height)) _ .0 (sides .1) in
+    let range = and-eq-true-iff (within Kind.layer Kind.channel (r .kind)) _ .0 (row .0) in
+    let sides = and-eq-true-iff (within 1 sideLimit (r .width)) _ .0 (range .1) in
+    let more = and-eq-true-iff (within 1 sideLimit (r .height)) _ .0 (sides .1) in
     let inside = and-eq-true-iff (inFile size fileLength r) _ .0 (row .1) in
     let count = and-eq-true-iff (eqb (r .count) (tileCount (r .width) (r .height))) _ .0 (inside .0) in (
       eqb-true size pointerSize (usable .0),
       record {
-        wide = within-bounds 1 16384 (r .width) (sides .0);
-        high = within-bounds 1 16384 (r .height) (more .0);
-        deep = within-bounds 1 4 (r .depth) (more .1);
+        wide = within-bounds 1 sideLimit (r .width) (sides .0);
+        high = within-bounds 1 sideLimit (r .height) (more .0);
+        deep = within-bounds 1 depthLimit (r .depth) (more .1);
         count = eqb-true (r .count) _ (count .0);
         way = leb-true compression 1 (inside .1);
       },
@@ -64,7 +66,7 @@ unfolding drawableRefusal
 drawable-ready size f n r compression fit = go (rowRefusal size (length f) n r compression) refl fit
   where
     go : (m : ℕ) → rowRefusal size (length f) n r compression ≡ m → (b : Bool)
-        → cond (eqb m 0) (cond b (pointersRefusal (run (tiles size (r .count) 0) f (r .tiles))) (refusal 11 0)) (refusal m 0) .number ≡ 0
+        → cond (eqb m 0) (cond b (pointersRefusal (run (tiles size (r .count) 0) f (r .tiles))) (refusal Refusal.wrongBuffer 0)) (refusal m 0) .number ≡ 0
         → Ready size f r compression × (b ≡ true)
     go (suc m) e b z = absurd (let h : suc m ≡ 0 = rw (ne-eqb (suc m) 0 (λ h. omega (arith, h))) at z in omega (arith, h))
     go zero e false z = absurd (omega (arith, z))

@@ -6,6 +6,7 @@ use mathlib.Core.List.{List, [], _∷_}
 use mathlib.Core.Bool.{Bool, true, cond}
 use lib.ListN.{length}
 use lib.Dec.{eqb}
+use Rattle.xcf_numbers.specs.Refusal
 use Rattle.xcf_walk.specs.Walk.{Outcome, got, refused, run}
 use Rattle.xcf_table.specs.declared.Row.{Row}
 use Rattle.xcf_table.specs.Table.{rowAt}
@@ -22,7 +23,7 @@ refusal n p = record { number = n; place = p; marked = 0 }
 
 -- the walk over the tile pointers is refused at the lowest bad word
 abbrev pub pointersRefusal : Outcome (Unit {0}) → DecodeAnswer
-pointersRefusal (got u q) = refusal 0 0
+pointersRefusal (got u q) = refusal Refusal.accepted 0
 pointersRefusal (refused n p) = refusal n p
 
 -- the lent pixels and marks fit a row; where none are lent, nothing has to
@@ -34,7 +35,7 @@ lentFits r (Buffers pixels marks) = fits r pixels marks
 unfoldable pub drawableRefusal : ℕ → List ℕ → ℕ → Row → ℕ → Bool → DecodeAnswer
 drawableRefusal size file tableLength r compression fit =
     let n = rowRefusal size (length file) tableLength r compression in
-    cond (eqb n 0) (cond fit (pointersRefusal (run (tiles size (r .count) 0) file (r .tiles))) (refusal 11 0)) (refusal n 0)
+    cond (eqb n 0) (cond fit (pointersRefusal (run (tiles size (r .count) 0) file (r .tiles))) (refusal Refusal.wrongBuffer 0)) (refusal n 0)
 
 -- the marks of a row's tiles, and how many of some marks are not zero
 unfoldable pub marksOf : ℕ → List ℕ → Row → ℕ → List ℕ
@@ -70,7 +71,7 @@ decoding size file table k compression pixels marks =
 
 -- the numbers that it answers
 abbrev pub decoderNumbers : List ℕ
-decoderNumbers = 0 ∷ 11 ∷ 13 ∷ 14 ∷ 15 ∷ []
+decoderNumbers = Refusal.accepted ∷ Refusal.wrongBuffer ∷ Refusal.badTilePointer ∷ Refusal.unusable ∷ Refusal.tooLong ∷ []
 
 -- the same answer with nothing lent for pixels and marks
 unfoldable pub counting : ℕ → List ℕ → List ℕ → ℕ → ℕ → DecodeAnswer

@@ -1,12 +1,15 @@
 // What is refused before a drawable is decoded or counted.
 ghost use mathlib.Core.Path.{_≡_};
 ghost use Prim.Native.Nat.{_≤_};
+ghost use Rattle.xcf_numbers.specs.Limit.{sideLimit, depthLimit};
 ghost use Rattle.xcf_store.specs.Pointer.{PointerSize};
 ghost use Rattle.xcf_walk.specs.Walk.{run};
 ghost use Rattle.xcf_parse.specs.Hierarchy.{tiles};
 ghost use Rattle.xcf_decode.specs.Answer.{pointersRefusal, lentFits, drawableRefusal};
 use crate::DecodeAnswer;
 use crate::refusal;
+use xcf_numbers::refusal::ACCEPTED;
+use xcf_numbers::refusal::WRONG_BUFFER;
 use xcf_parse::hierarchy::tiles;
 use xcf_table::Row;
 use xcf_walk::cursor::start;
@@ -20,7 +23,7 @@ pub enum Lent {
 }
 
 fn fits_lent(row: Row, lent: Lent) -> bool
-    requires { ⌜ (row .width ≤ 16384) × (row .height ≤ 16384) × (row .depth ≤ 4) ⌝ }
+    requires { ⌜ (row .width ≤ sideLimit) × (row .height ≤ sideLimit) × (row .depth ≤ depthLimit) ⌝ }
     ensures { λ r. ⌜ r ≡ lentFits row lent ⌝ }
 {
     match lent {
@@ -38,7 +41,7 @@ fn pointers_refusal(file: &[u8], row: Row, size: usize) -> DecodeAnswer
     if end.number != 0 {
         return refusal(end.number as u64, end.at as u64);
     }
-    refusal(0, 0)
+    refusal(ACCEPTED, 0)
 }
 
 // The refusal of a row from a table of so many numbers, or number 0.
@@ -59,5 +62,5 @@ pub(crate) fn drawable_refusal(
     if fits_lent(row, lent) {
         return pointers_refusal(file, row, size);
     }
-    refusal(11, 0)
+    refusal(WRONG_BUFFER, 0)
 }

@@ -1,15 +1,16 @@
 // The marked tiles of a drawable, counted with the pixels of one tile at a time.
 ghost use mathlib.Core.Path.{_≡_};
 ghost use lib.ListN.{length};
+ghost use Rattle.xcf_numbers.specs.Limit.{tileSize};
 ghost use Rattle.xcf_decode.specs.Answer.{nonzero, marksOf};
 ghost use Rattle.xcf_window.specs.Parts.{Ready};
-use xcf_grid::frame::TILE_SIZE;
 use xcf_grid::frame::frame_of;
+use xcf_numbers::limit::TILE_SIZE;
 use xcf_table::Row;
 use xcf_window::tile::decode_one;
 
 fn count_tiles(file: &[u8], row: Row, compression: u32, size: usize, scratch: &mut [u8]) -> u64
-    requires { ⌜ Ready size (now file) row compression × (length (now scratch) ≡ 16384) ⌝ }
+    requires { ⌜ Ready size (now file) row compression × (length (now scratch) ≡ tileSize) ⌝ }
     ensures { λ r. ⌜ r ≡ nonzero (marksOf size (now (file .entry)) row compression) ⌝ }
 {
     let mut t: u32 = 0;

@@ -2,11 +2,12 @@
 ghost use mathlib.Core.Path.{_≡_};
 ghost use Prim.Native.Nat.{_*_};
 ghost use lib.ListN.{length};
+ghost use Rattle.xcf_numbers.specs.Limit.{tileSize};
 ghost use Rattle.xcf_decode.specs.Answer.{rowDecoding};
 ghost use Rattle.xcf_window.specs.Parts.{Ready};
-use xcf_grid::frame::TILE_SIZE;
 use xcf_grid::frame::frame_of;
 use xcf_grid::put::put_tile;
+use xcf_numbers::limit::TILE_SIZE;
 use xcf_table::Row;
 use xcf_window::tile::decode_one;
 
@@ -21,7 +22,7 @@ fn decode_tiles(
     scratch: &mut [u8],
 ) -> u64
     requires { ⌜ Ready size (now file) row compression ⌝ }
-    requires { ⌜ (length (now pixels) ≡ row .width * row .height * row .depth) × (length (now marks) ≡ row .count) × (length (now scratch) ≡ 16384) ⌝ }
+    requires { ⌜ (length (now pixels) ≡ row .width * row .height * row .depth) × (length (now marks) ≡ row .count) × (length (now scratch) ≡ tileSize) ⌝ }
     ensures { λ r. ⌜ r ≡ rowDecoding size (now (file .entry)) row compression .answer .marked ⌝ }
     ensures { λ _. ⌜ now (pixels .exit) ≡ rowDecoding size (now (file .entry)) row compression .pixels ⌝ }
     ensures { λ _. ⌜ now (marks .exit) ≡ rowDecoding size (now (file .entry)) row compression .marks ⌝ }

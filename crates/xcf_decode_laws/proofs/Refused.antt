@@ -10,12 +10,14 @@ use native.Mathlib.Omega.{arith}
 use borrow.Author.Tests.{le-leb, leb-true}
 use lib.Dec.{leb, eqb}
 use lib.ListN.{length}
+use Rattle.xcf_numbers.specs.Limit.{fileLimit, tableSize}
+use Rattle.xcf_numbers.specs.Refusal
 use Rattle.xcf_walk.specs.Walk.{Outcome, got, refused, Walk, run, bytes, here, fileLength, must, _>>=_}
 use Rattle.xcf_store.specs.Word.{part, bigEndian}
 use Rattle.xcf_walk.specs.Fields.{number}
 use Rattle.xcf_walk.proofs.Walks.{got-not-refused}
 use Rattle.xcf_table.specs.declared.Row.{Row}
-use Rattle.xcf_table.specs.Table.{tableSize, rowAt, fileLimit}
+use Rattle.xcf_table.specs.Table.{rowAt}
 use Rattle.xcf_grid.specs.Grid.{tileCount}
 use Rattle.xcf_laws.proofs.Cases.{by-cases}
 use Rattle.xcf_parse.specs.Hierarchy.{tiles}
@@ -32,18 +34,18 @@ unfolding run number bytes
 number-there size f at k fits = rw (le-leb _ _ fits)
 
 module _ (size : ℕ) (f : List ℕ) where
-  tested-13 : (t : Bool) (at : ℕ) {A : Type 0} (w : Walk A) (q : ℕ) {n p : ℕ} → (refused n p ≡ run w f q → n ≡ 13)
-      → refused n p ≡ run (must t 13 at >>= λ _. w) f q → n ≡ 13
+  tested-13 : (t : Bool) (at : ℕ) {A : Type 0} (w : Walk A) (q : ℕ) {n p : ℕ} → (refused n p ≡ run w f q → n ≡ Refusal.badTilePointer)
+      → refused n p ≡ run (must t Refusal.badTilePointer at >>= λ _. w) f q → n ≡ Refusal.badTilePointer
   unfolding run must
   tested-13 true at w q rest e = rest e
   tested-13 false at w q rest e = cc
 
-  closed-13 : (t : Bool) (at q : ℕ) {n p : ℕ} → refused n p ≡ run (must t 13 at) f q → n ≡ 13
+  closed-13 : (t : Bool) (at q : ℕ) {n p : ℕ} → refused n p ≡ run (must t Refusal.badTilePointer at) f q → n ≡ Refusal.badTilePointer
   unfolding run must
   closed-13 true at q e = absurd (got-not-refused (sym e))
   closed-13 false at q e = cc
 
-  pub pointers-13 : (count before at : ℕ) {n p : ℕ} → at + size * (count + 1) ≤ length f → refused n p ≡ run (tiles size count before) f at → n ≡ 13
+  pub pointers-13 : (count before at : ℕ) {n p : ℕ} → at + size * (count + 1) ≤ length f → refused n p ≡ run (tiles size count before) f at → n ≡ Refusal.badTilePointer
   unfolding tiles run here fileLength
   pointers-13 zero before at inside e = closed-13 _ at (at + size) (e ∙ number-there size f at _ (omega (arith, inside)))
   pointers-13 (suc count) before at inside e =
@@ -63,7 +65,7 @@ module _ (size : ℕ) (f : List ℕ) (n : ℕ) (r : Row) (compression : ℕ) whe
       let file = and-eq-true-iff (inFile size (length f) r) _ .0 (row .1) in
       leb-true _ _ (and-eq-true-iff (eqb (r .count) (tileCount (r .width) (r .height))) _ .0 (file .0) .1)
 
-  outcome-listed : (x : Outcome (Unit {0})) → ((m p : ℕ) → refused m p ≡ x → m ≡ 13) → Listed (pointersRefusal x)
+  outcome-listed : (x : Outcome (Unit {0})) → ((m p : ℕ) → refused m p ≡ x → m ≡ Refusal.badTilePointer) → Listed (pointersRefusal x)
   unfolding listed
   outcome-listed (got u q) h = refl
   outcome-listed (refused m p) h = rw (h m p refl)
@@ -79,7 +81,7 @@ module _ (size : ℕ) (f : List ℕ) (n : ℕ) (r : Row) (compression : ℕ) whe
       refusalAt a b c = cond a (cond b (cond c 0 14) 15) 11
 
       go : (a b c : Bool) → usableRow size (length f) r compression ≡ c → (fit : Bool)
-          → Listed (cond (eqb (refusalAt a b c) 0) (cond fit (pointersRefusal (run (tiles size (r .count) 0) f (r .tiles))) (refusal 11 0)) (refusal (refusalAt a b c) 0))
+          → Listed (cond (eqb (refusalAt a b c) 0) (cond fit (pointersRefusal (run (tiles size (r .count) 0) f (r .tiles))) (refusal Refusal.wrongBuffer 0)) (refusal (refusalAt a b c) 0))
       go true true true e true = pointers-listed e
       go true true true e false = refl
       go true true false e fit = refl

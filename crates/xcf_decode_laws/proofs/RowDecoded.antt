@@ -6,8 +6,9 @@ use mathlib.Core.List.{List}
 use mathlib.Core.Bool.{true}
 use borrow.Author.Tests.{le-leb, eq-eqb}
 use lib.ListN.{length}
+use Rattle.xcf_numbers.specs.Limit.{fileLimit, tableSize}
+use Rattle.xcf_numbers.specs.Refusal
 use Rattle.xcf_table.specs.declared.Row.{Row}
-use Rattle.xcf_table.specs.Table.{tableSize, fileLimit}
 use Rattle.xcf_range.proofs.Bounds.{bounds-within}
 use Rattle.xcf_store.specs.Pointer.{pointerSize, PointerSize}
 use Rattle.xcf_read.specs.Answer.{reading, rowOf}
@@ -37,7 +38,7 @@ module _ {size : ℕ} {f : List ℕ} {S : ℕ → Type 0} {r : Row} (sized : Poi
     unfolding rowRefusal
     row-not-refused = rw (eq-eqb _ _ long, le-leb _ _ small, usable compression way)
 
-    decodable : drawableRefusal size f table r compression true ≡ refusal 0 0
+    decodable : drawableRefusal size f table r compression true ≡ refusal Refusal.accepted 0
     unfolding drawableRefusal
     decodable = rw (row-not-refused, ← row .tiles .pointers)
 

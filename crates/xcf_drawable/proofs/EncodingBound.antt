@@ -6,6 +6,7 @@ use mathlib.Core.Path.{_≡_}
 use mathlib.Core.List.{List, [], _∷_, _++_, flatten}
 use native.Mathlib.Omega.{arith}
 use lib.ListN.{length}
+use Rattle.xcf_numbers.specs.Limit.{encodedSize}
 use Rattle.xcf_table.specs.declared.Row.{Row}
 use Rattle.xcf_grid.proofs.FewTiles.{few-tiles}
 use Rattle.xcf_encode.proofs.TileBound.{tile-bound}
@@ -16,7 +17,7 @@ use Rattle.xcf_grid.proofs.Lines.{tiled-size}
 pub tiled : {r : Row} {t : ℕ} {pixels : List ℕ} → Drawn r pixels → t < r .count → Tiled r t pixels
 tiled d below = record { drawn = d; tile = below }
 
-pub encoding-bound : {r : Row} {t : ℕ} {pixels : List ℕ} → Tiled r t pixels → length (encodingOf r t pixels) ≤ 16644
+pub encoding-bound : {r : Row} {t : ℕ} {pixels : List ℕ} → Tiled r t pixels → length (encodingOf r t pixels) ≤ encodedSize
 unfolding encodingOf
 encoding-bound d = tile-bound _ _ _ (tiled-size d .0) (d .drawn .range .deep .1)
 

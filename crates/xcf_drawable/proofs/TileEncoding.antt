@@ -8,6 +8,7 @@ use native.Mathlib.Nat.{zero-add}
 use borrow.Author.Tests.{eq-eqb, le-ltb}
 use lib.ListN.{length, take}
 use lib.Seq.{sets-eq, take-append-seam}
+use Rattle.xcf_numbers.specs.Limit.{depthLimit, tileSide, tileSize}
 use Rattle.xcf_table.specs.declared.Row.{Row}
 use Rattle.xcf_grid.specs.Grid.{tileWidth, tileHeight}
 use Rattle.xcf_tile.specs.Answer.{usableTile}
@@ -41,16 +42,16 @@ module _ {r : Row} {t : ℕ} {pixels : List ℕ} (d : Tiled r t pixels) where
   unfolding tileRefusal usableTile roomRefusal encodingOf
   tile-fits old room =
       rw (
-        bounds-within 1 64 _ (tiled-width d),
-        bounds-within 1 64 _ (tiled-height d),
-        bounds-within 1 4 (r .depth) (d .drawn .range .deep),
+        bounds-within 1 tileSide _ (tiled-width d),
+        bounds-within 1 tileSide _ (tiled-height d),
+        bounds-within 1 depthLimit (r .depth) (d .drawn .range .deep),
         eq-eqb _ _ (shown-length d),
         le-ltb _ _ room,
       )
 
-  module _ {size : ℕ} {tile taken : List ℕ} (long : length tile ≡ 16384) (p : Put tile 0 own size taken) where
+  module _ {size : ℕ} {tile taken : List ℕ} (long : length tile ≡ tileSize) (p : Put tile 0 own size taken) where
     -- the pixels lie in the tile's room, which keeps its length
-    pub tile-there : (size ≤ length taken) × (length taken ≡ 16384)
+    pub tile-there : (size ≤ length taken) × (length taken ≡ tileSize)
     tile-there =
         let same = put-length p ∙ long in (omega (arith, p .behind, shown-length d, tiled-size d .1, same), same)
 

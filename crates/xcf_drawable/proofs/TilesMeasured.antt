@@ -8,6 +8,8 @@ use mathlib.Core.List.{List, flatten}
 use native.Mathlib.Omega.{arith}
 use native.Mathlib.Nat.{zero-add}
 use lib.ListN.{length, length-append}
+use Rattle.xcf_drawable.specs.Parts.{encodingsLimit}
+use Rattle.xcf_numbers.specs.Limit.{encodedSize}
 use Rattle.xcf_table.specs.declared.Row.{Row}
 use Rattle.xcf_drawable.specs.Drawable.{encodingOf, encodings, rowTiles}
 use Rattle.xcf_grid.specs.Drawn.{Drawn}
@@ -15,7 +17,7 @@ use Rattle.xcf_drawable.proofs.EncodingBound.{few, tiled, encoding-boun
 
 pub record Measuring (r : Row) (pixels : List ℕ) (t size : ℕ) : Type 0 where
   pub inside : t ≤ r .count
-  pub short : size ≤ 16644 * t
+  pub short : size ≤ encodedSize * t
   pub left : size + length (flatten (encodings (r .count - t) t r pixels)) ≡ length (flatten (rowTiles r pixels))
 
 pub measuring-start : {r : Row} {pixels : List ℕ} → Measuring r pixels 0 0
@@ -35,7 +37,7 @@ module _ {r : Row} {pixels : List ℕ} {t size : ℕ} (m : Measuring r pixels t 
         left = omega (arith, e, m .left, whole);
       }
 
-  pub measuring-small : Drawn r pixels → size ≤ 1090781184
+  pub measuring-small : Drawn r pixels → size ≤ encodingsLimit
   measuring-small d = omega (arith, m .short, m .inside, few (d .range))
 
   pub measuring-over : r .count ≤ t → size ≡ length (flatten (rowTiles r pixels))

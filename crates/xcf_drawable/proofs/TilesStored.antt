@@ -8,8 +8,8 @@ use mathlib.Core.List.{List, [], _++_, flatMap, flatten}
 use native.Mathlib.Omega.{arith}
 use lib.ListN.{length, take, drop, length-append}
 use lib.Seq.{sets}
+use Rattle.xcf_numbers.specs.Limit.{fileLimit}
 use Rattle.xcf_table.specs.declared.Row.{Row}
-use Rattle.xcf_table.specs.Table.{fileLimit}
 use Rattle.xcf_store.specs.Put.{Put}
 use Rattle.xcf_store.proofs.Stores.{put-part, put-length}
 use Rattle.xcf_store.specs.Word.{wordBytes, words}

@@ -4,10 +4,14 @@ use mathlib.Core.Path.{_≡_}
 use mathlib.Core.List.{List}
 use mathlib.Core.Bool.{Bool}
 use lib.ListN.{length}
+use Rattle.xcf_numbers.specs.Limit.{fileLimit}
 use Rattle.xcf_table.specs.declared.Row.{Row}
-use Rattle.xcf_table.specs.Table.{fileLimit}
 use Rattle.xcf_drawable.specs.Drawable.{Drawable}
 use Rattle.xcf_grid.specs.Drawn.{Drawn}
+
+-- the most bytes of the encodings of a drawable's tiles
+abbrev pub encodingsLimit : ℕ
+encodingsLimit = 1090781184
 
 -- a drawable with numbers in range, and with the name and the pixels that they say
 pub record Writable (d : Drawable) : Type 0 where

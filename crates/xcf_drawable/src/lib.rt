@@ -7,26 +7,30 @@ ghost use mathlib.Core.List.{_++_, flatten};
 ghost use Prim.Native.Nat.{_+_, _*_, _≤_};
 ghost use lib.ListN.{length};
 ghost use lib.Seq.{sets};
+ghost use Rattle.xcf_numbers.specs.Limit.{tileSize, encodedSize, drawableLimit};
 ghost use Rattle.xcf_store.specs.Put.{Put};
 ghost use Rattle.xcf_store.specs.Word.{words};
 ghost use Rattle.xcf_structure.specs.Structure.{levelBytes};
 ghost use Rattle.xcf_drawable.specs.Drawable.{rowTiles, starts, levelSize, drawableSize, drawableBytes};
 ghost use Rattle.xcf_grid.specs.Drawn.{Drawn};
-ghost use Rattle.xcf_drawable.specs.Parts.{Space, drawn, Writable};
-use crate::tile::ENCODED_SIZE;
+ghost use Rattle.xcf_drawable.specs.Parts.{Space, drawn, Writable, encodingsLimit};
 use crate::tile::encode_one;
-use xcf_grid::frame::TILE_SIZE;
+use xcf_numbers::limit::ENCODED_SIZE;
+use xcf_numbers::limit::TILE_SIZE;
 use xcf_store::put::put_word;
 use xcf_store::put::put_words;
 use xcf_structure::put_structure;
 use xcf_structure::structure_size;
 use xcf_table::Row;
 
+// The length of a hierarchy.
+const HIERARCHY_SIZE: usize = 20;
+
 // The length of the tiles' encodings; the tile and the encoded are room for one tile.
 fn measure_each(row: Row, pixels: &[u8], tile: &mut [u8], encoded: &mut [u8]) -> usize
-    requires { ⌜ Drawn row (now pixels) × ((length (now tile) ≡ 16384) × (length (now encoded) ≡ 16644)) ⌝ }
-    ensures { λ r. ⌜ (r ≡ length (flatten (rowTiles row (now (pixels .entry))))) × (r ≤ 1090781184) ⌝ }
-    ensures { λ _. ⌜ (length (now (tile .exit)) ≡ 16384) × (length (now (encoded .exit)) ≡ 16644) ⌝ }
+    requires { ⌜ Drawn row (now pixels) × ((length (now tile) ≡ tileSize) × (length (now encoded) ≡ encodedSize)) ⌝ }
+    ensures { λ r. ⌜ (r ≡ length (flatten (rowTiles row (now (pixels .entry))))) × (r ≤ encodingsLimit) ⌝ }
+    ensures { λ _. ⌜ (length (now (tile .exit)) ≡ tileSize) × (length (now (encoded .exit)) ≡ encodedSize) ⌝ }
 {
     let mut t: u32 = 0;
     let mut size: usize = 0;
@@ -40,7 +44,7 @@ fn measure_each(row: Row, pixels: &[u8], tile: &mut [u8], encoded: &mut [u8]) ->
 // The same, with room made for one tile.
 fn measure_tiles(row: Row, pixels: &[u8]) -> usize
     requires { ⌜ Drawn row (now pixels) ⌝ }
-    ensures { λ r. ⌜ (r ≡ length (flatten (rowTiles row (now (pixels .entry))))) × (r ≤ 1090781184) ⌝ }
+    ensures { λ r. ⌜ (r ≡ length (flatten (rowTiles row (now (pixels .entry))))) × (r ≤ encodingsLimit) ⌝ }
 {
     let mut tile = [0u8; TILE_SIZE];
     let mut encoded = [0u8; ENCODED_SIZE];
@@ -50,11 +54,11 @@ fn measure_tiles(row: Row, pixels: &[u8]) -> usize
 // The length of all that is stored for a drawable.
 pub fn measure_drawable(row: Row, masked: bool, name: &[u8], pixels: &[u8]) -> usize
     requires { ⌜ Writable (drawn row masked (now name) (now pixels)) ⌝ }
-    ensures { λ r. ⌜ (r ≡ drawableSize (drawn row masked (now (name .entry)) (now (pixels .entry)))) × (r ≤ 1100000000) ⌝ }
+    ensures { λ r. ⌜ (r ≡ drawableSize (drawn row masked (now (name .entry)) (now (pixels .entry)))) × (r ≤ drawableLimit) ⌝ }
 {
     let structure = structure_size(row, masked, name);
     let tiles = measure_tiles(row, pixels);
-    structure + (20 + (4 * (row.count as usize + 3) + tiles))
+    structure + (HIERARCHY_SIZE + (4 * (row.count as usize + 3) + tiles))
 }
 
 // The tiles' encodings from `first` on, and their pointers from `link` on; the tile is room for one tile.
@@ -66,11 +70,11 @@ fn put_each(
     pixels: &[u8],
     tile: &mut [u8],
 ) -> usize
-    requires { ⌜ Drawn row (now pixels) × (length (now tile) ≡ 16384) ⌝ }
+    requires { ⌜ Drawn row (now pixels) × (length (now tile) ≡ tileSize) ⌝ }
     requires { ⌜ (link + 4 * row .count ≤ first) × Space (now output) first (length (flatten (rowTiles row (now pixels)))) ⌝ }
     ensures { λ r. ⌜ r ≡ first + length (flatten (rowTiles row (now (pixels .entry)))) ⌝ }
     ensures { λ _. ⌜ now (output .exit) ≡ sets (sets (now (output .entry)) link (words (starts (rowTiles row (now (pixels .entry))) first))) first (flatten (rowTiles row (now (pixels .entry)))) ⌝ }
-    ensures { λ _. ⌜ length (now (tile .exit)) ≡ 16384 ⌝ }
+    ensures { λ _. ⌜ length (now (tile .exit)) ≡ tileSize ⌝ }
 {
     let mut t: u32 = 0;
     let mut at = link;
@@ -122,7 +126,7 @@ pub fn put_drawable(
     ensures { λ r. ⌜ Put (now (output .entry)) to (drawableBytes (drawn row masked (now (name .entry)) (now (pixels .entry))) to) r (now (output .exit)) ⌝ }
 {
     let hierarchy = to + structure_size(row, masked, name);
-    let level = hierarchy + 20;
+    let level = hierarchy + HIERARCHY_SIZE;
     put_structure(output, to, row, masked, name, hierarchy as u32, mask as u32);
     put_words(
         output,

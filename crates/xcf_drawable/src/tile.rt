@@ -2,6 +2,7 @@
 ghost use mathlib.Core.Path.{_≡_};
 ghost use Prim.Native.Nat.{_≤_};
 ghost use lib.ListN.{length};
+ghost use Rattle.xcf_numbers.specs.Limit.{tileSize};
 ghost use Rattle.xcf_store.specs.Put.{Put};
 ghost use Rattle.xcf_grid.specs.Drawn.{Tiled};
 ghost use Rattle.xcf_drawable.specs.Drawable.{encodingOf};
@@ -11,9 +12,6 @@ use xcf_grid::take::take_tile;
 use xcf_grid::tiles_along;
 use xcf_table::Row;
 
-// The most bytes of a tile's encoding.
-pub(crate) const ENCODED_SIZE: usize = 16644;
-
 // The encoding of tile t at the output's start, and its length; the tile is room for its pixels.
 pub(crate) fn encode_one(
     row: Row,
@@ -22,10 +20,10 @@ pub(crate) fn encode_one(
     tile: &mut [u8],
     output: &mut [u8],
 ) -> usize
-    requires { ⌜ Tiled row t (now pixels) × (length (now tile) ≡ 16384) ⌝ }
+    requires { ⌜ Tiled row t (now pixels) × (length (now tile) ≡ tileSize) ⌝ }
     requires { ⌜ length (encodingOf row t (now pixels)) ≤ length (now output) ⌝ }
     ensures { λ r. ⌜ Put (now (output .entry)) 0 (encodingOf row t (now (pixels .entry))) r (now (output .exit)) ⌝ }
-    ensures { λ _. ⌜ length (now (tile .exit)) ≡ 16384 ⌝ }
+    ensures { λ _. ⌜ length (now (tile .exit)) ≡ tileSize ⌝ }
 {
     let across = tiles_along(row.width) as u32;
     let width = side_of(row.width, t % across);

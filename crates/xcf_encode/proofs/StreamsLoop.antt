@@ -9,6 +9,7 @@ use native.Mathlib.Numerals.{sub-one}
 use native.Mathlib.Omega.{arith}
 use lib.ListN.{length, take, drop, length-append}
 use lib.Seq.{sets, take-length}
+use Rattle.xcf_numbers.specs.Limit.{depthLimit, streamLimit, tileSize}
 use Rattle.xcf_segment.specs.Segment.{encodeStream}
 use Rattle.xcf_encode.specs.Tile.{planes, encodeTile}
 use Rattle.xcf_encode.specs.Parts.{mostBytes, parts, StreamsRoom}
@@ -23,7 +24,7 @@ unfolding encodeTile
 tile-encoding n depth pixels planar e = ap (flatMap encodeStream) e
 
 -- a buffer with room for the streams of any tile
-pub buffer : (planar : List ℕ) (n depth : ℕ) → length planar ≡ 16384 → n ≤ 4096 → depth ≤ 4 → StreamsRoom planar n depth
+pub buffer : (planar : List ℕ) (n depth : ℕ) → length planar ≡ tileSize → n ≤ streamLimit → depth ≤ depthLimit → StreamsRoom planar n depth
 buffer planar n depth e s d = record { room = omega (arith, e, mul-le-mul s d); short = s; deep = d }
 
 -- the encoding of one stream

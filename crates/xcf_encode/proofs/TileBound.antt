@@ -5,12 +5,13 @@ use Prim.Native.Nat.{ℕ, _≤_}
 use native.Mathlib.Nat.{mul-le-mul}
 use native.Mathlib.Omega.{arith}
 use lib.ListN.{length}
+use Rattle.xcf_numbers.specs.Limit.{depthLimit, streamLimit, encodedSize}
 use Rattle.xcf_encode.specs.Tile.{encodeTile}
 use Rattle.xcf_encode.specs.Parts.{mostBytes}
 use Rattle.xcf_encode.proofs.StreamsBound.{all-bound, planes-within}
 
 -- a plane takes 4096 + 3 + 2 * 31 bytes at most
-pub tile-bound : (n depth : ℕ) (pixels : List ℕ) → n ≤ 4096 → depth ≤ 4 → length (encodeTile n depth pixels) ≤ 16644
+pub tile-bound : (n depth : ℕ) (pixels : List ℕ) → n ≤ streamLimit → depth ≤ depthLimit → length (encodeTile n depth pixels) ≤ encodedSize
 unfolding encodeTile
 tile-bound n depth pixels h d =
     let most : mostBytes n ≤ 4161 = omega arith in

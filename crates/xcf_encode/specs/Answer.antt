@@ -5,22 +5,20 @@ use mathlib.Core.List.{List, _++_}
 use mathlib.Core.Bool.{cond}
 use lib.ListN.{length, drop}
 use lib.Dec.{ltb, eqb}
+use Rattle.xcf_numbers.specs.Limit.{streamLimit}
+use Rattle.xcf_numbers.specs.Refusal
 use Rattle.xcf_encode.specs.declared.EncodeAnswer.{EncodeAnswer}
 use Rattle.xcf_segment.specs.Segment.{encodeStream}
 use Rattle.xcf_encode.specs.Tile.{encodeTile}
 use Rattle.xcf_tile.specs.Answer.{usableTile}
 
--- a stream has at most this many bytes
-abbrev pub streamLimit : ℕ
-streamLimit = 4096
-
 -- 18 where an encoding of `size` bytes would exceed an output of `room`; else 0
 unfoldable pub roomRefusal : ℕ → ℕ → ℕ
-roomRefusal size room = cond (ltb room size) 18 0
+roomRefusal size room = cond (ltb room size) Refusal.noRoom Refusal.accepted
 
 -- 11 for a stream over the limit, then 18; else 0
 unfoldable pub streamRefusal : List ℕ → ℕ → ℕ
-streamRefusal stream room = cond (ltb streamLimit (length stream)) 11 (roomRefusal (length (encodeStream stream)) room)
+streamRefusal stream room = cond (ltb streamLimit (length stream)) Refusal.wrongBuffer (roomRefusal (length (encodeStream stream)) room)
 
 -- a refusal's length is 0
 unfoldable pub encodeAnswer : ℕ → List ℕ → EncodeAnswer
@@ -38,7 +36,10 @@ pub record StreamEncoded (stream old : List ℕ) (r : EncodeAnswer) (new : List 
 -- 14 unless the tile is usable, 11 unless the pixels have the tile's length, then 18; else 0
 unfoldable pub tileRefusal : ℕ → ℕ → ℕ → List ℕ → ℕ → ℕ
 tileRefusal w h depth pixels room =
-    cond (usableTile w h depth) (cond (eqb (length pixels) (w * h * depth)) (roomRefusal (length (encodeTile (w * h) depth pixels)) room) 11) 14
+    cond (usableTile w h depth) (cond (eqb (length pixels) (w * h * depth))
+    (roomRefusal (length (encodeTile (w * h) depth pixels)) room)
+    Refusal.wrongBuffer)
+    Refusal.unusable
 
 pub record TileEncoded (pixels : List ℕ) (w h depth : ℕ) (old : List ℕ) (r : EncodeAnswer) (new : List ℕ) : Type 0 where
   pub answer : r ≡ encodeAnswer (tileRefusal w h depth pixels (length old)) (encodeTile (w * h) depth pixels)

@@ -3,6 +3,7 @@ use mathlib.Core.Path.{_≡_}
 use mathlib.Core.List.{List, [], _∷_}
 use Prim.Native.Nat.{ℕ, zero, suc, _+_, _*_, _/_, _≤_, _<_}
 use lib.ListN.{length, take, drop}
+use Rattle.xcf_numbers.specs.Limit.{depthLimit, streamLimit, wordLimit}
 use Rattle.xcf_encode.specs.declared.EncodeAnswer.{EncodeAnswer}
 use Rattle.xcf_encode.specs.Answer.{roomRefusal, encodeAnswer, encodeOutput}
 
@@ -24,10 +25,10 @@ parts (suc count) at n planar = take n (drop at planar) ∷ parts count (at + n)
 pub record Pixels (pixels : List ℕ) (n k depth : ℕ) : Type 0 where
   pub exact : length pixels ≡ n * depth
   pub below : k < depth
-  pub small : length pixels + depth < 4294967296
+  pub small : length pixels + depth < wordLimit
 
 -- room for the streams of n pixels of `depth` bytes each
 pub record StreamsRoom (planar : List ℕ) (n depth : ℕ) : Type 0 where
   pub room : n * depth ≤ length planar
-  pub short : n ≤ 4096
-  pub deep : depth ≤ 4
+  pub short : n ≤ streamLimit
+  pub deep : depth ≤ depthLimit

@@ -5,6 +5,8 @@ mod tile;
 ghost use Rattle.xcf_encode.specs.Answer.{StreamEncoded, TileEncoded};
 use crate::streams::encode_streams;
 use crate::tile::encode_pixels;
+use xcf_numbers::limit::STREAM_LIMIT;
+use xcf_numbers::refusal;
 
 #[repr(C)]
 pub struct EncodeAnswer {
@@ -17,9 +19,9 @@ pub struct EncodeAnswer {
 pub fn encode_stream(stream: &[u8], output: &mut [u8]) -> EncodeAnswer
     ensures { λ r. ⌜ StreamEncoded (now (stream .entry)) (now (output .entry)) r (now (output .exit)) ⌝ }
 {
-    if 4096 < stream.len() {
+    if STREAM_LIMIT < stream.len() {
         return EncodeAnswer {
-            number: 11,
+            number: refusal::WRONG_BUFFER,
             place: 0,
             length: 0,
         };
@@ -43,13 +45,13 @@ pub fn encode_tile(
             return encode_pixels(pixels, n, depth as usize, output);
         }
         return EncodeAnswer {
-            number: 11,
+            number: refusal::WRONG_BUFFER,
             place: 0,
             length: 0,
         };
     }
     EncodeAnswer {
-        number: 14,
+        number: refusal::UNUSABLE,
         place: 0,
         length: 0,
     }

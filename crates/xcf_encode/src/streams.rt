@@ -4,16 +4,18 @@ ghost use mathlib.Core.List.{flatMap};
 ghost use Prim.Native.Nat.{_≤_};
 ghost use lib.ListN.{length};
 ghost use lib.Dec.{leb};
+ghost use Rattle.xcf_numbers.specs.Limit.{streamLimit};
 ghost use Rattle.xcf_encode.specs.Parts.{mostBytes, parts, StreamsRoom, EncodedInto};
 ghost use Rattle.xcf_segment.specs.Segment.{encodeStream};
 ghost use Rattle.xcf_store.specs.Put.{Put};
 use crate::EncodeAnswer;
+use xcf_numbers::refusal;
 use xcf_segment::measure::encoded_size;
 use xcf_segment::put::put_stream;
 
 // The most bytes that a stream of n bytes is written in.
 fn most_bytes(n: usize) -> usize
-    requires { ⌜ n ≤ 4096 ⌝ }
+    requires { ⌜ n ≤ streamLimit ⌝ }
     ensures { λ r. ⌜ r ≡ mostBytes n ⌝ }
 {
     n + 3 + 2 * (n / 131)
@@ -84,7 +86,7 @@ pub(crate) fn encode_streams(
         };
     }
     EncodeAnswer {
-        number: 18,
+        number: refusal::NO_ROOM,
         place: 0,
         length: 0,
     }

@@ -2,10 +2,12 @@
 ghost use mathlib.Core.Path.{_≡_};
 ghost use Prim.Native.Nat.{_*_, _≤_};
 ghost use lib.ListN.{length};
+ghost use Rattle.xcf_numbers.specs.Limit.{depthLimit, streamLimit};
 ghost use Rattle.xcf_encode.specs.Tile.{plane, planes, encodeTile};
 ghost use Rattle.xcf_encode.specs.Parts.{parts, Pixels, StreamsRoom, EncodedInto};
 use crate::EncodeAnswer;
 use crate::streams::encode_streams;
+use xcf_numbers::limit::TILE_SIZE;
 
 // Byte k of each pixel.
 fn gather_plane(pixels: &[u8], k: usize, depth: usize, stream: &mut [u8])
@@ -55,10 +57,10 @@ fn encode_within(
 
 // The encoding of n pixels, with room made for their streams.
 fn encode_gathered(pixels: &[u8], n: usize, depth: usize, output: &mut [u8]) -> EncodeAnswer
-    requires { ⌜ (length (now pixels) ≡ n * depth) × ((n ≤ 4096) × (depth ≤ 4)) ⌝ }
+    requires { ⌜ (length (now pixels) ≡ n * depth) × ((n ≤ streamLimit) × (depth ≤ depthLimit)) ⌝ }
     ensures { λ r. ⌜ EncodedInto (encodeTile n depth (now (pixels .entry))) (now (output .entry)) r (now (output .exit)) ⌝ }
 {
-    let mut planar = [0u8; 16384];
+    let mut planar = [0u8; TILE_SIZE];
     encode_within(pixels, n, depth, &mut planar, output)
 }
 
@@ -69,7 +71,7 @@ pub(crate) fn encode_pixels(
     depth: usize,
     output: &mut [u8],
 ) -> EncodeAnswer
-    requires { ⌜ (length (now pixels) ≡ n * depth) × ((n ≤ 4096) × (depth ≤ 4)) ⌝ }
+    requires { ⌜ (length (now pixels) ≡ n * depth) × ((n ≤ streamLimit) × (depth ≤ depthLimit)) ⌝ }
     ensures { λ r. ⌜ EncodedInto (encodeTile n depth (now (pixels .entry))) (now (output .entry)) r (now (output .exit)) ⌝ }
 {
     if depth == 1 {

@@ -9,8 +9,9 @@ use native.Mathlib.Numerals.{add-one}
 use native.Mathlib.Omega.{arith}
 use lib.ListN.{length, getD, take, drop, length-append}
 use lib.Seq.{drop-cons, drop-drop, take-add, take-length, take-append-add}
+use Rattle.xcf_numbers.specs.Limit.{depthLimit, tileSide, encodedSize, windowLimit}
 use Rattle.xcf_stream.specs.Streams.{streamsAt}
-use Rattle.xcf_tile.specs.Tile.{pixel, interleave, tileOf, tileIn, encodedTile, windowLimit}
+use Rattle.xcf_tile.specs.Tile.{pixel, interleave, tileOf, tileIn, encodedTile}
 use Rattle.xcf_segment.specs.Segment.{encodeStream}
 use Rattle.xcf_encode.specs.Tile.{plane, planes, operationsOf, encodeTile}
 use Rattle.xcf_encode.proofs.Planes.{plane-length}
@@ -83,9 +84,9 @@ tile-streams n depth pixels z h =
     let code : List ℕ = flatMap encodeStream (planes depth 0 n depth pixels) in
     rw window-keeps (rw zero-add at (streams-read-back n depth pixels depth 0 [] (take (windowLimit - length code) z)))
 
-pub tile-read-back : (w h depth : ℕ) (pixels z : List ℕ) → w ≤ 64 → h ≤ 64 → depth ≤ 4 → length pixels ≡ w * h * depth → tileOf (encodeTile (w * h) depth pixels ++ z) w h depth 1 ≡ record { mark = 0; consumed = length (encodeTile (w * h) depth pixels); operations = operationsOf (planes depth 0 (w * h) depth pixels); pixels = pixels }
+pub tile-read-back : (w h depth : ℕ) (pixels z : List ℕ) → w ≤ tileSide → h ≤ tileSide → depth ≤ depthLimit → length pixels ≡ w * h * depth → tileOf (encodeTile (w * h) depth pixels ++ z) w h depth 1 ≡ record { mark = 0; consumed = length (encodeTile (w * h) depth pixels); operations = operationsOf (planes depth 0 (w * h) depth pixels); pixels = pixels }
 unfolding tileOf tileIn encodedTile
 tile-read-back w h depth pixels z wide high deep exact =
-    let area : w * h ≤ 64 * 64 = mul-le-mul wide high in
-    let fits : length (encodeTile (w * h) depth pixels) ≤ 16644 = tile-bound (w * h) depth pixels area deep in
+    let area : w * h ≤ tileSide * tileSide = mul-le-mul wide high in
+    let fits : length (encodeTile (w * h) depth pixels) ≤ encodedSize = tile-bound (w * h) depth pixels area deep in
     rw (tile-streams (w * h) depth pixels z (omega arith), planes-together (w * h) depth pixels (exact ∙ mul-comm (w * h) depth))

@@ -6,7 +6,8 @@ use Prim.Native.Nat.{ℕ, zero, _+_, _-_, _*_, _/_, _%_, _≤_, _<_}
 use mathlib.Core.Path.{_≡_, _∙_, ap}
 use native.Mathlib.Nat.{mod-lt, mod-eq-of-lt, div-eq-of-lt, mul-add-mod-self-right, mul-add-div-right, mul-le-mul, div-lt-iff-lt-mul, div-add-mod, add-zero}
 use native.Mathlib.Omega.{arith}
-use Rattle.xcf_grid.specs.Grid.{tileSide, tilesAlong, sideOf, tileCount, tileWidth, tileHeight}
+use Rattle.xcf_numbers.specs.Limit.{tileSide}
+use Rattle.xcf_grid.specs.Grid.{tilesAlong, sideOf, tileCount, tileWidth, tileHeight}
 use Rattle.xcf_grid.specs.Pixels.{HasPixel, tileAt}
 
 column-below : (w x : ℕ) → x < w → x / tileSide < tilesAlong w
@@ -39,12 +40,12 @@ pub frame-down : (w h t : ℕ) → 1 ≤ w → t < tileCount w h → tileSide * 
 frame-down w h t some below = omega (arith, line-below w h t some below)
 
 -- its sides are 1 to 64
-pub tile-width : (w t : ℕ) → 1 ≤ w → (1 ≤ tileWidth w t) × (tileWidth w t ≤ 64)
+pub tile-width : (w t : ℕ) → 1 ≤ w → (1 ≤ tileWidth w t) × (tileWidth w t ≤ tileSide)
 tile-width w t some =
     let below = mod-lt t (let e : zero < tilesAlong w = omega (arith, some) in e) in
     (omega (arith, below, some), omega arith)
 
-pub tile-height : (w h t : ℕ) → 1 ≤ w → t < tileCount w h → (1 ≤ tileHeight w h t) × (tileHeight w h t ≤ 64)
+pub tile-height : (w h t : ℕ) → 1 ≤ w → t < tileCount w h → (1 ≤ tileHeight w h t) × (tileHeight w h t ≤ tileSide)
 tile-height w h t some below = (omega (arith, line-below w h t some below), omega arith)
 
 pub tile-of-frame : (w t x y : ℕ) → x < tileSide → y < tileSide → tileAt w (tileSide * (t % tilesAlong w) + x) (tileSide * (t / tilesAlong w) + y) ≡ t

@@ -9,10 +9,11 @@ use native.Mathlib.Omega.{arith}
 use native.Mathlib.Nat.{mod-lt, zero-add}
 use lib.ListN.{length, getD, length-append, List·getD-append}
 use lib.Seq.{sets, ext-getD, getD-take, getD-drop, getD-append-add}
+use Rattle.xcf_numbers.specs.Limit.{tileSide, streamLimit, tileSize}
 use Rattle.xcf_store.specs.Word.{part}
 use Rattle.xcf_store.proofs.Parts.{part-length}
 use Rattle.xcf_table.specs.declared.Row.{Row}
-use Rattle.xcf_grid.specs.Grid.{tileSide, tilesAlong, tileWidth, tileHeight}
+use Rattle.xcf_grid.specs.Grid.{tilesAlong, tileWidth, tileHeight}
 use Rattle.xcf_laws.proofs.Products.{small}
 use Rattle.xcf_store.specs.Put.{Put}
 use Rattle.xcf_grid.specs.Pixels.{placeOf, shown}
@@ -71,10 +72,10 @@ module _ {r : Row} {t : ℕ} {pixels : List ℕ} (d : Tiled r t pixels) where
   corner = depth * (tileSide * (w * (t / tilesAlong w) + t % tilesAlong w))
 
   -- the sides are 1 to 64
-  pub tiled-width : (1 ≤ tw) × (tw ≤ 64)
+  pub tiled-width : (1 ≤ tw) × (tw ≤ tileSide)
   tiled-width = tile-width w t (d .drawn .range .wide .0)
 
-  pub tiled-height : (1 ≤ th) × (th ≤ 64)
+  pub tiled-height : (1 ≤ th) × (th ≤ tileSide)
   tiled-height = tile-height w (r .height) t (d .drawn .range .wide .0) (rw (d .drawn .range .count) at (d .tile))
 
   pub shown-length : length (shown w (r .height) depth t pixels) ≡ tw * th * depth
@@ -86,7 +87,7 @@ module _ {r : Row} {t : ℕ} {pixels : List ℕ} (d : Tiled r t pixels) where
   shown-entry i below =
       tabulate-entry (tw * th * depth) 0 _ i below ∙ ap (λ n. getD pixels (placeOf w depth t n) 0) (zero-add i)
 
-  pub tiled-size : (tw * th ≤ 4096) × (tw * th * depth ≤ 16384)
+  pub tiled-size : (tw * th ≤ streamLimit) × (tw * th * depth ≤ tileSize)
   tiled-size = small (tiled-width .1) (tiled-height .1) (d .drawn .range .deep .1)
 
   placeable : (tile : List ℕ) → tw * th * depth ≤ length tile → Placeable r (frameOf r t) (length tile) (length pixels)

@@ -7,7 +7,8 @@ use mathlib.Core.List.{List}
 use native.Mathlib.Omega.{arith}
 use native.Mathlib.Nat.{div-add-mod, div-lt-iff-lt-mul, zero-add}
 use lib.ListN.{length, getD}
-use Rattle.xcf_grid.specs.Grid.{tileSide, sideOf, tileWidth, tileHeight}
+use Rattle.xcf_numbers.specs.Limit.{tileSide}
+use Rattle.xcf_grid.specs.Grid.{sideOf, tileWidth, tileHeight}
 use Rattle.xcf_grid.specs.Pixels.{tileAt, pixelIn, byteOf, byteIn, pixelsOf}
 use Rattle.xcf_grid.proofs.Grid.{tile-column, tile-line}
 use Rattle.xcf_grid.proofs.Places.{place-below}

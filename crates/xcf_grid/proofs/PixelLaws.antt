@@ -9,7 +9,8 @@ use native.Mathlib.Nat.{mod-lt, div-add-mod, div-lt-iff-lt-mul, zero-add}
 use native.Mathlib.Omega.{arith}
 use lib.ListN.{length, getD}
 use lib.Seq.{ext-getD}
-use Rattle.xcf_grid.specs.Grid.{tileSide, tilesAlong, tileWidth, tileHeight, tileCount}
+use Rattle.xcf_numbers.specs.Limit.{tileSide}
+use Rattle.xcf_grid.specs.Grid.{tilesAlong, tileWidth, tileHeight, tileCount}
 use Rattle.xcf_grid.specs.Pixels.{tabulate, tileAt, pixelIn, byteOf, byteIn, pixelsOf, placeOf, HasPixel, shown}
 use Rattle.xcf_grid.proofs.Grid.{tile-column, tile-line, tile-below, frame-across, frame-down, tile-of-frame, tile-of-pixel}
 use Rattle.xcf_grid.proofs.Places.{place-row, place-column}

@@ -8,8 +8,8 @@ use mathlib.Core.List.{List}
 use native.Mathlib.Omega.{arith}
 use native.Mathlib.Nat.{mul-le-mul-left, lt-of-mul-lt-mul-left}
 use lib.ListN.{length, getD}
+use Rattle.xcf_numbers.specs.Limit.{tileSide}
 use Rattle.xcf_table.specs.declared.Row.{Row}
-use Rattle.xcf_grid.specs.Grid.{tileSide}
 use Rattle.xcf_grid.specs.declared.frame.Frame.{Frame}
 use Rattle.xcf_grid.specs.Pixels.{byteOf}
 use Rattle.xcf_grid.specs.Parts.{putFrame, Fits, Framed}

@@ -6,8 +6,8 @@ use mathlib.Core.List.{List}
 use native.Mathlib.Nat.{mul-le-mul, mul-le-mul-left}
 use native.Mathlib.Omega.{arith}
 use lib.ListN.{length}
+use Rattle.xcf_numbers.specs.Limit.{sideLimit, tileSide}
 use Rattle.xcf_table.specs.declared.Row.{Row}
-use Rattle.xcf_grid.specs.Grid.{tileSide}
 use Rattle.xcf_grid.specs.declared.frame.Frame.{Frame}
 use Rattle.xcf_grid.specs.Parts.{Room, Placeable}
 use Rattle.xcf_grid.proofs.PutFrame.{frame-fits}
@@ -31,7 +31,7 @@ module _ {r : Row} {s : Frame} {tileLength pixelsLength : ℕ} (p : Placeable r 
         above = omega (arith, corner);
         corner = corner;
         place = mul-le-mul (p .deep) corner;
-        line = omega (arith, mul-le-mul (p .deep) (let e : s .width ≤ 16384 = omega (arith, p .framed .across, p .wide) in e));
+        line = omega (arith, mul-le-mul (p .deep) (let e : s .width ≤ sideLimit = omega (arith, p .framed .across, p .wide) in e));
         stride = mul-le-mul (p .deep) (p .wide);
       }
 

@@ -8,8 +8,9 @@ use mathlib.Core.Logic.{_≢_}
 use mathlib.Core.List.{List}
 use native.Mathlib.Omega.{arith}
 use lib.ListN.{length, getD}
+use Rattle.xcf_numbers.specs.Limit.{tileSide}
 use Rattle.xcf_table.specs.declared.Row.{Row}
-use Rattle.xcf_grid.specs.Grid.{tileSide, tilesAlong, tileWidth, tileHeight, tileCount}
+use Rattle.xcf_grid.specs.Grid.{tilesAlong, tileWidth, tileHeight, tileCount}
 use Rattle.xcf_grid.specs.Pixels.{tileAt, pixelIn, byteOf}
 use Rattle.xcf_grid.specs.Parts.{frameOf, putFrame, Framed}
 use Rattle.xcf_grid.proofs.Grid.{tile-column, tile-line, frame-across, frame-down, tile-of-pixel}

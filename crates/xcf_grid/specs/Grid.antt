@@ -1,12 +1,14 @@
 -- Tiles are 64 by 64, row by row, the last column and row smaller.
 use Prim.Native.Nat.{ℕ, _+_, _-_, _*_, _/_, _%_, min}
-
-abbrev pub tileSide : ℕ
-tileSide = 64
+use Rattle.xcf_numbers.specs.Limit.{tileSide}
 
 -- how many tiles a side takes
 abbrev pub tilesAlong : ℕ → ℕ
 tilesAlong side = (side + (tileSide - 1)) / tileSide
+
+-- the most tiles that a side of 32 bits takes
+abbrev pub alongLimit : ℕ
+alongLimit = 67108864
 
 -- how much of a side its tile i takes
 abbrev pub sideOf : ℕ → ℕ → ℕ

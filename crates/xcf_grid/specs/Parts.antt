@@ -4,8 +4,9 @@ use mathlib.Core.Path.{_≡_}
 use mathlib.Core.List.{List, [], _++_}
 use lib.ListN.{length, drop}
 use lib.Seq.{paste}
+use Rattle.xcf_numbers.specs.Limit.{sideLimit, depthLimit, tileSide, wordLimit}
 use Rattle.xcf_table.specs.declared.Row.{Row}
-use Rattle.xcf_grid.specs.Grid.{tileSide, tilesAlong, sideOf}
+use Rattle.xcf_grid.specs.Grid.{tilesAlong, sideOf}
 use Rattle.xcf_grid.specs.declared.frame.Frame.{Frame}
 use Rattle.xcf_store.specs.Word.{part}
 
@@ -36,7 +37,7 @@ pub record Fits (pixels : List ℕ) (to stride : ℕ) (tile : List ℕ) (from li
 -- and the places behind the lines are small
 pub record Room (pixels : List ℕ) (to stride : ℕ) (tile : List ℕ) (from line n : ℕ) : Type 0 where
   pub fits : Fits pixels to stride tile from line n
-  pub small : length pixels + stride < 4294967296
+  pub small : length pixels + stride < wordLimit
 
 -- a tile's frame lies in its row's drawable, whose pixels and the tile's have these lengths
 pub record Framed (r : Row) (s : Frame) (tileLength pixelsLength : ℕ) : Type 0 where
@@ -48,9 +49,9 @@ pub record Framed (r : Row) (s : Frame) (tileLength pixelsLength : ℕ) : Type 0
 -- and the drawable's sides and depth are in range
 pub record Placeable (r : Row) (s : Frame) (tileLength pixelsLength : ℕ) : Type 0 where
   pub framed : Framed r s tileLength pixelsLength
-  pub wide : r .width ≤ 16384
-  pub high : r .height ≤ 16384
-  pub deep : r .depth ≤ 4
+  pub wide : r .width ≤ sideLimit
+  pub high : r .height ≤ sideLimit
+  pub deep : r .depth ≤ depthLimit
 
 -- n lines of some pixels, each of so many bytes, the first at a place and each `stride` behind the one before
 unfoldable pub lines : List ℕ → ℕ → ℕ → ℕ → ℕ → List ℕ
@@ -61,4 +62,4 @@ lines pixels from stride line (suc n) = part pixels from line ++ lines pixels (f
 pub record LinesFit (pixels : List ℕ) (from stride line n : ℕ) (tile : List ℕ) : Type 0 where
   pub source : from + stride * n + line ≤ length pixels + stride
   pub target : line * n ≤ length tile
-  pub small : length pixels + stride < 4294967296
+  pub small : length pixels + stride < wordLimit

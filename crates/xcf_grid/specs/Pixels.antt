@@ -2,7 +2,8 @@
 use Prim.Native.Nat.{ℕ, zero, suc, _+_, _*_, _/_, _%_, _≤_, _<_}
 use mathlib.Core.List.{List, [], _∷_}
 use lib.ListN.{getD}
-use Rattle.xcf_grid.specs.Grid.{tileSide, tilesAlong, sideOf, tileWidth, tileHeight}
+use Rattle.xcf_numbers.specs.Limit.{tileSide}
+use Rattle.xcf_grid.specs.Grid.{tilesAlong, sideOf, tileWidth, tileHeight}
 
 -- n values of a function, from its value at i on
 unfoldable pub tabulate : ℕ → ℕ → (ℕ → ℕ) → List ℕ

@@ -1,13 +1,15 @@
 // Where a tile stands among the tiles of its drawable.
 ghost use mathlib.Core.Path.{_≡_};
 ghost use Prim.Native.Nat.{_≤_};
+ghost use Rattle.xcf_numbers.specs.Limit.{sideLimit};
 ghost use Rattle.xcf_grid.specs.Parts.{frameOf};
 use crate::side_of;
 use crate::tiles_along;
+use xcf_numbers::limit::TILE_SIDE;
 use xcf_table::Row;
 
-// The most bytes of a tile.
-pub const TILE_SIZE: usize = 16384;
+// A tile's side, as wide as a place.
+pub(crate) const SIDE: usize = TILE_SIDE as usize;
 
 // A tile's column and line among the tiles, and its sides.
 pub struct Frame {
@@ -18,7 +20,7 @@ pub struct Frame {
 }
 
 pub fn frame_of(row: Row, t: u32) -> Frame
-    requires { ⌜ (1 ≤ row .width) × (row .width ≤ 16384) ⌝ }
+    requires { ⌜ (1 ≤ row .width) × (row .width ≤ sideLimit) ⌝ }
     ensures { λ r. ⌜ r ≡ frameOf row t ⌝ }
 {
     let across = tiles_along(row.width) as u32;

@@ -5,13 +5,19 @@ pub mod take;
 
 ghost use mathlib.Core.Path.{_≡_};
 ghost use Prim.Native.Nat.{_≤_};
-ghost use Rattle.xcf_grid.specs.Grid.{tilesAlong, sideOf, tileCount};
+ghost use Rattle.xcf_grid.specs.Grid.{tilesAlong, sideOf, tileCount, alongLimit};
+use xcf_numbers::limit::TILE_SIDE;
+
+// A tile's side, and the last place in it, as wide as a count of pixels.
+const SIDE: u64 = TILE_SIDE as u64;
+
+const LAST: u64 = SIDE - 1;
 
 // How many tiles a side takes: at most 2^26.
 pub fn tiles_along(side: u32) -> u64
-    ensures { λ r. ⌜ (r ≡ tilesAlong side) × (r ≤ 67108864) ⌝ }
+    ensures { λ r. ⌜ (r ≡ tilesAlong side) × (r ≤ alongLimit) ⌝ }
 {
-    (side as u64 + 63) / 64
+    (side as u64 + LAST) / SIDE
 }
 
 // How many tiles a drawable of these sides has.
@@ -25,13 +31,13 @@ pub fn tile_count(width: u32, height: u32) -> u64
 pub fn side_of(side: u32, i: u32) -> u32
     ensures { λ r. ⌜ r ≡ sideOf side i ⌝ }
 {
-    let start = 64 * (i as u64);
+    let start = SIDE * (i as u64);
     if (side as u64) <= start {
         return 0;
     }
     let left = side as u64 - start;
-    if left < 64 {
+    if left < SIDE {
         return left as u32;
     }
-    64
+    TILE_SIDE
 }

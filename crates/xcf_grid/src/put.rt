@@ -3,6 +3,7 @@ ghost use mathlib.Core.Path.{_≡_};
 ghost use lib.ListN.{length};
 ghost use Rattle.xcf_grid.specs.Parts.{putLines, putFrame, Room, Placeable};
 use crate::frame::Frame;
+use crate::frame::SIDE;
 use xcf_table::Row;
 
 // n lines of the tile, `line` bytes each, put into the pixels from `at` on, `stride` apart.
@@ -29,7 +30,7 @@ pub fn put_tile(row: Row, frame: Frame, tile: &[u8], pixels: &mut [u8])
 {
     let depth = row.depth as usize;
     let width = row.width as usize;
-    let first = 64 * (width * frame.line as usize + frame.column as usize);
+    let first = SIDE * (width * frame.line as usize + frame.column as usize);
     let at = depth * first;
     let line = depth * frame.width as usize;
     let stride = depth * width;

@@ -9,6 +9,7 @@ use mathlib.Core.Bool.{Bool, true, false, cond}
 use mathlib.Core.Logic.{_⊎_, inl, inr}
 use native.Mathlib.Omega.{arith}
 use lib.ListN.{length, getD, take, drop, length-append}
+use Rattle.xcf_numbers.specs.Kind
 use Rattle.xcf_table.specs.declared.Row.{Row}
 use Rattle.xcf_table.specs.declared.canvas.Canvas.{Canvas}
 use Rattle.xcf_parse.specs.Header.{tags}
@@ -63,8 +64,8 @@ pub image-same : (c : Canvas) (rs : List Row) (ps : List ℕ) → length (imageO
 image-same c rs ps =
     let known = version-old-or-new rs in
     rw (
-      image-length c _ (kindPlaces 1 rs ps) (kindPlaces 3 rs ps) known,
-      image-length c _ (kindPlaces 1 rs []) (kindPlaces 3 rs []) known,
+      image-length c _ (kindPlaces Kind.layer rs ps) (kindPlaces Kind.channel rs ps) known,
+      image-length c _ (kindPlaces Kind.layer rs []) (kindPlaces Kind.channel rs []) known,
       kind-length 1 rs ps,
       kind-length 3 rs ps,
     )

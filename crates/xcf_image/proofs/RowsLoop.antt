@@ -10,6 +10,7 @@ use native.Mathlib.Omega.{arith}
 use borrow.Author.Tests.{eq-eqb, ne-eqb, le-leb, lt-leb}
 use lib.ListN.{length, length-append}
 use lib.Dec.{eqb}
+use Rattle.xcf_numbers.specs.Limit.{newMode}
 use Rattle.xcf_table.specs.declared.Row.{Row}
 use Rattle.xcf_table.specs.Table.{rowAt}
 use Rattle.xcf_store.specs.Word.{when}
@@ -68,11 +69,11 @@ module _ {table : List ℕ} {n k : ℕ} {r : Row} (g : VersionLeft table n k) (h
   unfolding versionOf rowsFrom
   version-step = rw e (rw (rest-begins n k h) at (g .rest))
 
-  pub version-next : r .mode < 19 → VersionLeft table n (k + 1)
-  version-next old = record { few = omega arith; rest = rw (lt-leb 19 (r .mode) old) at version-step }
+  pub version-next : r .mode < newMode → VersionLeft table n (k + 1)
+  version-next old = record { few = omega arith; rest = rw (lt-leb newMode (r .mode) old) at version-step }
 
-  pub version-new : 19 ≤ r .mode → 2 ≡ versionOf (rowsFrom table n 0)
-  version-new new = rw (le-leb 19 (r .mode) new) at version-step
+  pub version-new : newMode ≤ r .mode → 2 ≡ versionOf (rowsFrom table n 0)
+  version-new new = rw (le-leb newMode (r .mode) new) at version-step
 
 pub version-over : {table : List ℕ} {n k : ℕ} → VersionLeft table n k → n ≤ k → 0 ≡ versionOf (rowsFrom table n 0)
 unfolding versionOf rowsFrom

@@ -4,6 +4,9 @@ use mathlib.Core.List.{List, [], _∷_, _++_}
 use mathlib.Core.Bool.{Bool, cond}
 use lib.ListN.{getD, drop}
 use lib.Dec.{leb, eqb}
+use Rattle.xcf_numbers.specs.Limit.{newMode}
+use Rattle.xcf_numbers.specs.PropertyType
+use Rattle.xcf_numbers.specs.Kind
 use Rattle.xcf_table.specs.declared.Row.{Row}
 use Rattle.xcf_table.specs.declared.canvas.Canvas.{Canvas}
 use Rattle.xcf_parse.specs.Header.{magic, tags}
@@ -12,7 +15,7 @@ use Rattle.xcf_structure.specs.Structure.{listBytes, Property, worded}
 
 -- a mode that only version 2 has: 19, 20 or 21
 abbrev pub isNewMode : Row → Bool
-isNewMode r = leb 19 (r .mode)
+isNewMode r = leb newMode (r .mode)
 
 -- the version of rows: 2 if a mode is 19, 20 or 21, else 0
 unfoldable pub versionOf : List Row → ℕ
@@ -26,7 +29,7 @@ kindPlaces kind (r ∷ rs) places = when (eqb (r .kind) kind) (getD places 0 0 �
 
 -- its properties: type 17 with the value 1, then 0
 unfoldable pub imageProperties : List Property
-imageProperties = record { kind = 17; payload = 1 ∷ [] } ∷ worded 0 [] ∷ []
+imageProperties = record { kind = PropertyType.compression; payload = 1 ∷ [] } ∷ worded PropertyType.end [] ∷ []
 
 -- the image's structure, with its pointers to layers and to channels
 unfoldable pub imageBytes : Canvas → ℕ → List ℕ → List ℕ → List ℕ
@@ -38,4 +41,4 @@ imageBytes c version layers channels =
 
 -- that of rows at these places
 abbrev pub imageOf : Canvas → List Row → List ℕ → List ℕ
-imageOf c rows places = imageBytes c (versionOf rows) (kindPlaces 1 rows places) (kindPlaces 3 rows places)
+imageOf c rows places = imageBytes c (versionOf rows) (kindPlaces Kind.layer rows places) (kindPlaces Kind.channel rows places)

@@ -2,8 +2,9 @@
 use Prim.Native.Nat.{ℕ, zero, suc, _+_, _≤_, _<_}
 use mathlib.Core.List.{List, [], _∷_}
 use lib.ListN.{getD}
+use Rattle.xcf_numbers.specs.Limit.{fileLimit}
 use Rattle.xcf_table.specs.declared.Row.{Row}
-use Rattle.xcf_table.specs.Table.{rowAt, fileLimit}
+use Rattle.xcf_table.specs.Table.{rowAt}
 
 -- n rows, from row k on
 unfoldable pub rowsFrom : List ℕ → ℕ → ℕ → List Row

@@ -4,11 +4,15 @@ ghost use mathlib.Core.Bool.{cond};
 ghost use mathlib.Core.List.{[], _∷_, _++_};
 ghost use Prim.Native.Nat.{_+_, _≤_};
 ghost use lib.ListN.{length, getD};
+ghost use Rattle.xcf_numbers.specs.Limit.{tableRows, imageLimit, placesSize};
 ghost use Rattle.xcf_store.specs.Put.{Put};
 ghost use Rattle.xcf_parse.specs.Header.{tags};
 ghost use Rattle.xcf_store.specs.Word.{words};
 ghost use Rattle.xcf_image.specs.Image.{versionOf, kindPlaces, imageOf};
 ghost use Rattle.xcf_image.specs.Parts.{rowsFrom, LowPlaces};
+use xcf_numbers::kind;
+use xcf_numbers::limit::NEW_MODE;
+use xcf_numbers::property_type;
 use xcf_parse::header::FILE;
 use xcf_parse::header::MAGIC;
 use xcf_parse::header::V002;
@@ -19,10 +23,13 @@ use xcf_store::put::put_words;
 use xcf_table::canvas::Canvas;
 use xcf_table::row_at;
 
+// The length of an image's structure without pointers.
+const BARE_SIZE: usize = 51;
+
 // How many of the first n rows are of a kind.
 fn count_kind(table: &[u32], n: u32, kind: u32) -> usize
-    requires { ⌜ n ≤ 128 ⌝ }
-    ensures { λ r. ⌜ (r ≡ length (kindPlaces kind (rowsFrom (now (table .entry)) n 0) [])) × (r ≤ 128) ⌝ }
+    requires { ⌜ n ≤ tableRows ⌝ }
+    ensures { λ r. ⌜ (r ≡ length (kindPlaces kind (rowsFrom (now (table .entry)) n 0) [])) × (r ≤ tableRows) ⌝ }
 {
     let mut k: u32 = 0;
     let mut count: usize = 0;
@@ -39,10 +46,10 @@ fn count_kind(table: &[u32], n: u32, kind: u32) -> usize
 
 // The length of the image's structure.
 pub fn image_size(canvas: Canvas, table: &[u32], n: u32) -> usize
-    requires { ⌜ n ≤ 128 ⌝ }
-    ensures { λ r. ⌜ (r ≡ length (imageOf canvas (rowsFrom (now (table .entry)) n 0) [])) × (r ≤ 1100) ⌝ }
+    requires { ⌜ n ≤ tableRows ⌝ }
+    ensures { λ r. ⌜ (r ≡ length (imageOf canvas (rowsFrom (now (table .entry)) n 0) [])) × (r ≤ imageLimit) ⌝ }
 {
-    51 + 4 * count_kind(table, n, 1) + 4 * count_kind(table, n, 3)
+    BARE_SIZE + 4 * count_kind(table, n, kind::LAYER) + 4 * count_kind(table, n, kind::CHANNEL)
 }
 
 // Whether one of the first n rows has a mode above 18, which makes the file's version 2.
@@ -51,7 +58,7 @@ fn new_mode(table: &[u32], n: u32) -> bool
 {
     let mut k: u32 = 0;
     while k < n {
-        if 19 <= row_at(table, k).mode {
+        if NEW_MODE <= row_at(table, k).mode {
             return true;
         }
         k += 1;
@@ -78,7 +85,7 @@ fn put_pointers(
     kind: u32,
     places: &[usize],
 ) -> usize
-    requires { ⌜ (n ≤ 128) × (length (now places) ≡ 129) ⌝ }
+    requires { ⌜ (n ≤ tableRows) × (length (now places) ≡ placesSize) ⌝ }
     requires { ⌜ LowPlaces (now places) n ⌝ }
     requires { ⌜ to + length (words (kindPlaces kind (rowsFrom (now table) n 0) (now places) ++ (0 ∷ []))) ≤ length (now output) ⌝ }
     ensures { λ r. ⌜ Put (now (output .entry)) to (words (kindPlaces kind (rowsFrom (now (table .entry)) n 0) (now (places .entry)) ++ (0 ∷ []))) r (now (output .exit)) ⌝ }
@@ -102,7 +109,7 @@ pub fn put_image(
     n: u32,
     places: &[usize],
 ) -> usize
-    requires { ⌜ (n ≤ 128) × (length (now places) ≡ 129) ⌝ }
+    requires { ⌜ (n ≤ tableRows) × (length (now places) ≡ placesSize) ⌝ }
     requires { ⌜ LowPlaces (now places) n ⌝ }
     requires { ⌜ length (imageOf canvas (rowsFrom (now table) n 0) (now places)) ≤ length (now output) ⌝ }
     ensures { λ r. ⌜ Put (now (output .entry)) 0 (imageOf canvas (rowsFrom (now (table .entry)) n 0) (now (places .entry))) r (now (output .exit)) ⌝ }
@@ -112,7 +119,7 @@ pub fn put_image(
     let words = [canvas.width, canvas.height, canvas.base, 17, 1];
     let compression = put_words(output, tag, &words);
     output[compression] = 1;
-    let list = put_words(output, compression + 1, &[0, 0]);
-    let layers = put_pointers(output, list, table, n, 1, places);
-    put_pointers(output, layers, table, n, 3, places)
+    let list = put_words(output, compression + 1, &[property_type::END, 0]);
+    let layers = put_pointers(output, list, table, n, kind::LAYER, places);
+    put_pointers(output, layers, table, n, kind::CHANNEL, places)
 }

@@ -3,7 +3,7 @@ use libc::STDIN_FILENO;
 use xcf_listing::INPUT_SIZE;
 use xcf_listing::TEXT_SIZE;
 use xcf_listing::print::print_listing;
-use xcf_table::TABLE_SIZE;
+use xcf_numbers::limit::TABLE_SIZE;
 
 fn main() {
     let mut input = [0u8; INPUT_SIZE];

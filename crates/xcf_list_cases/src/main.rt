@@ -3,7 +3,7 @@ use libc::STDOUT_FILENO;
 use xcf_listing::INPUT_SIZE;
 use xcf_listing::TEXT_SIZE;
 use xcf_listing::print::print_listing;
-use xcf_table::TABLE_SIZE;
+use xcf_numbers::limit::TABLE_SIZE;
 
 // The most cases that are listed.
 const CASES: usize = 64;

@@ -13,13 +13,16 @@ use borrow.Author.Tests.{le-leb, lt-leb, eq-eqb, ne-eqb}
 use lib.Dec.{leb, eqb}
 use lib.ListN.{length, length-append}
 use lib.Seq.{sets-eq, length-take-le}
+use Rattle.xcf_numbers.specs.Limit.{fileLimit, tableRows, tableSize}
+use Rattle.xcf_numbers.specs.Kind
+use Rattle.xcf_numbers.specs.Refusal
 use Rattle.io.specs.Counts.{Counts}
 use Rattle.xcf_store.specs.Put.{PutWithin}
 use Rattle.xcf_store.proofs.Stores.{within-append, within-more}
 use Rattle.xcf_text.specs.Text.{lineSize}
 use Rattle.xcf_walk.specs.Walk.{Outcome, got, refused, run}
 use Rattle.xcf_laws.proofs.Cases.{below-or, by-cases}
-use Rattle.xcf_table.specs.Table.{tableSize, rowAt, fileLimit}
+use Rattle.xcf_table.specs.Table.{rowAt}
 use Rattle.xcf_read.specs.declared.ReadAnswer.{ReadAnswer}
 use Rattle.xcf_store.specs.Pointer.{pointerSize}
 use Rattle.xcf_read.specs.Image.{Image, image}
@@ -31,21 +34,21 @@ use Rattle.xcf_listing.specs.Listing.{textSize, rowLines, linesOf, marke
 use Rattle.xcf_line.specs.Line.{canvasLine, refusedLine}
 
 -- row 128 would be an unused row, of kind 0
-no-row : (table : List ℕ) → length table ≡ tableSize → rowAt table 128 .kind ≡ 0
+no-row : (table : List ℕ) → length table ≡ tableSize → rowAt table tableRows .kind ≡ Kind.unused
 unfolding rowAt
 no-row table size = rw size
 
-few-rows : {size : ℕ} {f : List ℕ} {x : Reading} → Accepts size f x → x .answer .rows ≤ 128
+few-rows : {size : ℕ} {f : List ℕ} {x : Reading} → Accepts size f x → x .answer .rows ≤ tableRows
 few-rows {x = x} a =
     ⊎-elim
     (λ below. omega arith)
-    (λ above. absurd (omega (arith, a .row 128 (omega arith) .kind .0, no-row (x .table) (a .long))))
+    (λ above. absurd (omega (arith, a .row tableRows (omega arith) .kind .0, no-row (x .table) (a .long))))
     (below-or (x .answer .rows) 129)
 
 -- what the code needs to know of an accepted reading
 pub record Listable (a : ReadAnswer) (table : List ℕ) : Type 0 where
   pub way : a .compression ≤ 1
-  pub few : a .rows ≤ 128
+  pub few : a .rows ≤ tableRows
   pub size : length table ≡ tableSize
 
 pub listable : (file table : List ℕ) {a : ReadAnswer} {after : List ℕ} → Read file table a after → a .number ≡ 0 → Listable a after
@@ -81,7 +84,7 @@ within limit file table short = rw (le-leb _ _ short)
 
 module _ (limit : ℕ) (file table text : List ℕ) where
   -- too short a text
-  pub lists-none : {r : ListAnswer} → length text < textSize → r ≡ record { number = 11; place = 0; marked = 0; length = 0 }
+  pub lists-none : {r : ListAnswer} → length text < textSize → r ≡ record { number = Refusal.wrongBuffer; place = 0; marked = 0; length = 0 }
       → Lists limit file table text r table text
   unfolding written tableAfter listAnswer
   lists-none short e = record { answer = rw (lt-leb _ _ short) e; text = rw (e, lt-leb _ _ short); table = rw (lt-leb _ _ short) }
@@ -100,11 +103,11 @@ module _ (limit : ℕ) (file table text : List ℕ) where
 
     -- too long a file
     pub lists-long : {r : ListAnswer} → limit < length file → PutWithin text 0 (refusedLine 15 0) lineSize end new
-        → r ≡ record { number = 15; place = 0; marked = 0; length = end } → Lists limit file table text r table new
+        → r ≡ record { number = Refusal.tooLong; place = 0; marked = 0; length = end } → Lists limit file table text r table new
     unfolding readingWithin markedTiles linesOf
     lists-long long p e =
         rw e
-        (lists-put {x = record { answer = refusal 15 0; table = table }} (rw (lt-leb _ _ long)) refl (within-more textSize (omega arith) p))
+        (lists-put {x = record { answer = refusal Refusal.tooLong 0; table = table }} (rw (lt-leb _ _ long)) refl (within-more textSize (omega arith) p))
 
     -- what the reader answered
     module _ (short : length file ≤ limit) {a : ReadAnswer} {after : List ℕ} (read : Read file table a after) where
@@ -140,7 +143,7 @@ answer-length limit file table room = go (leb textSize room)
     x : Reading
     x = readingWithin limit file table
 
-    go : (b : Bool) → cond b (answerOf file x) (record { number = 11; place = 0; marked = 0; length = 0 }) .length ≡ length (cond b (linesOf file x) [])
+    go : (b : Bool) → cond b (answerOf file x) (record { number = Refusal.wrongBuffer; place = 0; marked = 0; length = 0 }) .length ≡ length (cond b (linesOf file x) [])
     go true = refl
     go false = refl
 

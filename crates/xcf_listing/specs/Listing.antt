@@ -5,6 +5,7 @@ use mathlib.Core.List.{List, [], _∷_, _++_}
 use mathlib.Core.Bool.{cond}
 use lib.ListN.{length, drop}
 use lib.Dec.{leb, eqb}
+use Rattle.xcf_numbers.specs.Refusal
 use Rattle.xcf_store.specs.Pointer.{pointerSize}
 use Rattle.xcf_read.specs.Answer.{refusal, Reading, reading, refusals}
 use Rattle.xcf_decode.specs.Answer.{counting}
@@ -37,7 +38,7 @@ listLimit = 32768
 -- what the reader gives for a file of at most `limit` bytes; a longer one is refused as too long
 unfoldable pub readingWithin : ℕ → List ℕ → List ℕ → Reading
 readingWithin limit file table =
-    cond (leb (length file) limit) (reading file table) (record { answer = refusal 15 0; table = table })
+    cond (leb (length file) limit) (reading file table) (record { answer = refusal Refusal.tooLong 0; table = table })
 
 unfoldable pub listing : ℕ → List ℕ → List ℕ → List ℕ
 listing limit file table = linesOf file (readingWithin limit file table)
@@ -62,11 +63,12 @@ answerOf file x = record {
 -- 11 where there may be no room
 unfoldable pub listAnswer : ℕ → List ℕ → List ℕ → ℕ → ListAnswer
 listAnswer limit file table room =
-    cond (leb textSize room) (answerOf file (readingWithin limit file table)) (record { number = 11; place = 0; marked = 0; length = 0 })
+    cond (leb textSize room) (answerOf file (readingWithin limit file table))
+    (record { number = Refusal.wrongBuffer; place = 0; marked = 0; length = 0 })
 
 -- the numbers that are answered: 0, and those of a refused reading
 abbrev pub listerNumbers : List ℕ
-listerNumbers = 0 ∷ 11 ∷ 15 ∷ refusals
+listerNumbers = Refusal.accepted ∷ Refusal.wrongBuffer ∷ Refusal.tooLong ∷ refusals
 
 -- the table is the reader's, where the reader is asked
 unfoldable pub tableAfter : ℕ → List ℕ → List ℕ → ℕ → List ℕ

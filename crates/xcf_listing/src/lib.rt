@@ -8,6 +8,7 @@ ghost use Rattle.xcf_listing.specs.Listing.{Lists};
 use crate::rows::put_rows;
 use xcf_line::put_canvas;
 use xcf_line::put_refusal;
+use xcf_numbers::refusal;
 
 // Room for every listing.
 pub const TEXT_SIZE: usize = 65536;
@@ -47,11 +48,11 @@ pub fn list(file: &[u8], limit: usize, table: &mut [u32], text: &mut [u8]) -> Li
     ensures { λ r. ⌜ Counts (r .length) (now (text .exit)) ⌝ }
 {
     if text.len() < TEXT_SIZE {
-        return refused(11, 0, 0);
+        return refused(refusal::WRONG_BUFFER, 0, 0);
     }
     if limit < file.len() {
-        let end = put_refusal(text, 15, 0);
-        return refused(15, 0, end);
+        let end = put_refusal(text, refusal::TOO_LONG, 0);
+        return refused(refusal::TOO_LONG, 0, end);
     }
     let answer = xcf_read::read(file, table);
     if answer.number != 0 {

@@ -2,8 +2,8 @@
 ghost use mathlib.Core.Path.{_≡_};
 ghost use Prim.Native.Nat.{_+_, _*_, _≤_};
 ghost use lib.ListN.{length};
+ghost use Rattle.xcf_numbers.specs.Limit.{rowSize};
 ghost use Rattle.xcf_store.specs.Put.{PutWithin};
-ghost use Rattle.xcf_table.specs.Table.{rowSize};
 ghost use Rattle.xcf_text.specs.Text.{lineSize};
 ghost use Rattle.xcf_listing.specs.Listing.{rowLines, markedTiles};
 use xcf_decode::count_marked;

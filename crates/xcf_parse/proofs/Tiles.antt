@@ -11,6 +11,7 @@ use native.Mathlib.Omega.{arith}
 use borrow.Author.Tests.{le-leb, leb-true, eqb-true, eqb-false}
 use lib.Dec.{leb, ltb, eqb}
 use lib.ListN.{length}
+use Rattle.xcf_numbers.specs.Refusal
 use Rattle.xcf_walk.specs.declared.cursor.Cursor.{Cursor}
 use Rattle.xcf_store.specs.declared.rising.Rising.{Rising}
 use Rattle.xcf_walk.specs.Walk.{Walk, must}
@@ -95,13 +96,13 @@ rising-ends size f at n {r} e = go (r .count) (let up : Risen size f at n r = rw
 -- the pointer behind those passed over
 module _ {size : ℕ} {f : List ℕ} {c : Cursor} {n : ℕ} {next : Cursor} {last count : ℕ} (l : TilesLeft size f c n next last count)
     {d e : Cursor} {p : ℕ} (read : Leads next (number size) f d p) where
-  closed : count ≡ n → e ≡ checked d (eqb p 0) 13 (next .at) → Leads c (tiles size n 0) f e tt
+  closed : count ≡ n → e ≡ checked d (eqb p 0) Refusal.badTilePointer (next .at) → Leads c (tiles size n 0) f e tt
   unfolding tiles
   closed h k =
       let none : n - count ≡ 0 = omega arith in
       l .whole (rw none (then-here _ _ (λ _. refl) (then _ read (by-check _ _ _ _ (omega arith) refl k))))
 
-  not-right : count < n → e ≡ checked d false 13 (next .at) → Leads c (tiles size n 0) f e tt
+  not-right : count < n → e ≡ checked d false Refusal.badTilePointer (next .at) → Leads c (tiles size n 0) f e tt
   unfolding tiles
   not-right h k =
       let one : n - count ≡ suc (n - (count + 1)) = omega arith in
@@ -116,9 +117,9 @@ module _ {size : ℕ} {f : List ℕ} {c : Cursor} {n : ℕ} {next : Cursor} {las
           let no = l .stops (live-before read z) h in
           sym (rw (le-leb _ _ (let e : next .at + size ≤ length f = omega (arith, w .0, w .1) in e), ← w .2) at no)
 
-  pub left-closed : e ≡ checked d (eqb count n && eqb p 0) 13 (next .at) → Leads c (tiles size n 0) f e tt
+  pub left-closed : e ≡ checked d (eqb count n && eqb p 0) Refusal.badTilePointer (next .at) → Leads c (tiles size n 0) f e tt
   left-closed k = go (eqb count n) refl k
     where
-      go : (t : Bool) → eqb count n ≡ t → e ≡ checked d (t && eqb p 0) 13 (next .at) → Leads c (tiles size n 0) f e tt
+      go : (t : Bool) → eqb count n ≡ t → e ≡ checked d (t && eqb p 0) Refusal.badTilePointer (next .at) → Leads c (tiles size n 0) f e tt
       go true h k = closed (eqb-true _ _ h) k
       go false h k = not-right (let less : count < n = omega (arith, l .few, eqb-false count n h) in less) k

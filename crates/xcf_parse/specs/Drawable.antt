@@ -1,6 +1,7 @@
 -- The structure of a layer, and of a mask or channel.
 use Prim.Native.Nat.{ℕ}
 use lib.Dec.{eqb}
+use Rattle.xcf_numbers.specs.Refusal
 use Rattle.xcf_walk.specs.Walk.{Walk, done, here, must, _>>=_, _>>_}
 use Rattle.xcf_walk.specs.Fields.{number, word, string}
 use Rattle.xcf_property.specs.Property.{layerList}
@@ -15,7 +16,7 @@ unfoldable pub side : Walk ℕ
 side = do
   at ← here
   n ← word
-  must (sideOk n) 4 at
+  must (sideOk n) Refusal.badSide at
   done n
 
 -- a side that has to be its owner's
@@ -23,13 +24,13 @@ unfoldable pub sideLike : ℕ → Walk (Unit {0})
 sideLike v = do
   at ← here
   n ← side
-  must (eqb n v) 10 at
+  must (eqb n v) Refusal.disagrees at
 
 unfoldable pub layerType : ℕ → Walk ℕ
 layerType base = do
   at ← here
   t ← word
-  must (typeOk base t) 10 at
+  must (typeOk base t) Refusal.disagrees at
   done t
 
 -- string, properties and hierarchy pointer, as every drawable has them

@@ -4,6 +4,7 @@ use mathlib.Core.List.{List, [], _∷_}
 use mathlib.Core.Bool.{Bool, true, false, cond, _&&_}
 use lib.ListN.{length}
 use lib.Dec.{ltb, eqb}
+use Rattle.xcf_numbers.specs.Refusal
 use Rattle.xcf_walk.specs.Walk.{Walk, done, bytes, here, must, _>>=_, _>>_}
 
 -- two lists are the same
@@ -35,8 +36,8 @@ unfoldable pub header : Walk ℕ
 header = do
   start ← here
   m ← bytes 9
-  must (same m magic) 2 start
+  must (same m magic) Refusal.notXcf start
   tagAt ← here
   tag ← bytes 5
-  must (ltb (versionIn tags tag) (length tags)) 3 tagAt
+  must (ltb (versionIn tags tag) (length tags)) Refusal.badVersion tagAt
   done (versionIn tags tag)

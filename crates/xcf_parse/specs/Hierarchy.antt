@@ -2,6 +2,7 @@
 use Prim.Native.Nat.{ℕ, zero, suc}
 use mathlib.Core.Bool.{cond, not, _&&_}
 use lib.Dec.{ltb, eqb}
+use Rattle.xcf_numbers.specs.Refusal
 use Rattle.xcf_walk.specs.Walk.{Walk, done, here, fileLength, jump, must, Turn, more, last, loop, _>>=_, _>>_}
 use Rattle.xcf_walk.specs.Fields.{number, word}
 use Rattle.xcf_grid.specs.Grid.{tileCount}
@@ -11,14 +12,14 @@ unfoldable pub agrees : ℕ → Walk (Unit {0})
 agrees v = do
   at ← here
   n ← word
-  must (eqb n v) 10 at
+  must (eqb n v) Refusal.disagrees at
 
 -- a pointer of so many bytes that is not 0
 unfoldable pub pointer : ℕ → Walk ℕ
 pointer size = do
   at ← here
   p ← number size
-  must (not (eqb p 0)) 9 at
+  must (not (eqb p 0)) Refusal.noPointer at
   done p
 
 -- further pointers up to a 0
@@ -35,12 +36,12 @@ unfoldable pub tiles : ℕ → ℕ → ℕ → Walk (Unit {0})
 tiles size zero before = do
   at ← here
   p ← number size
-  must (eqb p 0) 13 at
+  must (eqb p 0) Refusal.badTilePointer at
 tiles size (suc n) before = do
   at ← here
   end ← fileLength
   p ← number size
-  must (ltb before p && ltb p end) 13 at
+  must (ltb before p && ltb p end) Refusal.badTilePointer at
   tiles size n p
 
 -- the place of the first tile pointer

@@ -2,6 +2,8 @@
 use Prim.Native.Nat.{ℕ}
 use mathlib.Core.Bool.{Bool, cond, not, _&&_}
 use lib.Dec.{leb, eqb}
+use Rattle.xcf_numbers.specs.Base
+use Rattle.xcf_numbers.specs.Refusal
 use Rattle.xcf_walk.specs.Walk.{Walk, done, here, must, _>>=_, _>>_}
 use Rattle.xcf_walk.specs.Fields.{word}
 use Rattle.xcf_property.specs.Property.{imageList}
@@ -12,13 +14,13 @@ use Rattle.xcf_parse.specs.Drawable.{side}
 
 -- 0, 1, or from version 1 on 2
 unfoldable pub baseOk : ℕ → ℕ → Bool
-baseOk version base = leb base 2 && not (eqb version 0 && eqb base 2)
+baseOk version base = leb base Base.indexed && not (eqb version 0 && eqb base Base.indexed)
 
 unfoldable pub baseType : ℕ → Walk ℕ
 baseType version = do
   at ← here
   base ← word
-  must (baseOk version base) 5 at
+  must (baseOk version base) Refusal.badBase at
   done base
 
 -- what stands before the pointers
@@ -28,5 +30,5 @@ head = do
   width ← side
   height ← side
   base ← baseType version
-  p ← properties imageList (cond (eqb base 2) 1 0)
+  p ← properties imageList (cond (eqb base Base.indexed) 1 0)
   done (record { version = version; width = width; height = height; base = base; compression = p .compression })

@@ -3,6 +3,7 @@ use Prim.Native.Nat.{ℕ, _-_, _≤_, _<_}
 use mathlib.Core.Path.{_≡_}
 use mathlib.Core.List.{List}
 use mathlib.Core.Bool.{false}
+use Rattle.xcf_numbers.specs.Limit.{sideLimit}
 use Rattle.xcf_walk.specs.declared.cursor.Cursor.{Cursor}
 use Rattle.xcf_store.specs.Rising.{rises}
 use Rattle.xcf_walk.specs.Cursor.{Leads, noName}
@@ -32,8 +33,8 @@ pub record FieldsLow (x : Fields) (n : ℕ) : Type 0 where
   pub list : x .list ≤ n
 
 pub record LayerLow (x : Layer) (n : ℕ) : Type 0 where
-  pub width : x .width ≤ 16384
-  pub height : x .height ≤ 16384
+  pub width : x .width ≤ sideLimit
+  pub height : x .height ≤ sideLimit
   pub fields : FieldsLow (x .fields) n
 
 -- of n tiles count pointers of `size` bytes are right, the last of them before next: where what is left leads, the whole leads; and where the

@@ -2,11 +2,13 @@
 ghost use mathlib.Core.Path.{_≡_};
 ghost use Prim.Native.Nat.{_≤_};
 ghost use lib.ListN.{length};
+ghost use Rattle.xcf_numbers.specs.Limit.{sideLimit};
 ghost use Rattle.xcf_store.specs.Pointer.{PointerSize};
 ghost use Rattle.xcf_walk.specs.Cursor.{Leads, Reads};
 ghost use Rattle.xcf_parse.specs.Drawable.{side, sideLike, layerType, fields, layer, channel};
 ghost use Rattle.xcf_parse.specs.Parts.{noFields, noLayer, FieldsLow, LayerLow};
 use crate::hierarchy::pointer;
+use xcf_numbers::refusal;
 use xcf_property::Properties;
 use xcf_table::canvas::side_ok;
 use xcf_table::canvas::type_ok;
@@ -53,10 +55,11 @@ pub struct Owner {
 // Beside a refusal the side is 0.
 pub(crate) fn side(cursor: Cursor, file: &[u8]) -> WordRead
     ensures { λ r. ⌜ Leads cursor side (now (file .entry)) (r .cursor) (r .value) ⌝ }
-    ensures { λ r. ⌜ r .value ≤ 16384 ⌝ }
+    ensures { λ r. ⌜ r .value ≤ sideLimit ⌝ }
 {
     let n = cursor.word(file);
-    let next = n.cursor.check(side_ok(n.value), 4, cursor.at);
+    let next = n.cursor
+        .check(side_ok(n.value), refusal::BAD_SIDE, cursor.at);
     if next.number != 0 {
         return WordRead {
             value: 0,
@@ -74,14 +77,15 @@ fn side_like(cursor: Cursor, file: &[u8], v: u32) -> Cursor
     ensures { λ r. ⌜ Leads cursor (sideLike v) (now (file .entry)) r tt ⌝ }
 {
     let n = side(cursor, file);
-    n.cursor.check(n.value == v, 10, cursor.at)
+    n.cursor.check(n.value == v, refusal::DISAGREES, cursor.at)
 }
 
 fn layer_type(cursor: Cursor, file: &[u8], base: u32) -> WordRead
     ensures { λ r. ⌜ Leads cursor (layerType base) (now (file .entry)) (r .cursor) (r .value) ⌝ }
 {
     let t = cursor.word(file);
-    let next = t.cursor.check(type_ok(base, t.value), 10, cursor.at);
+    let next = t.cursor
+        .check(type_ok(base, t.value), refusal::DISAGREES, cursor.at);
     WordRead {
         value: t.value,
         cursor: next,

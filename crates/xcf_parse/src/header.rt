@@ -4,6 +4,7 @@ ghost use lib.ListN.{length};
 ghost use Rattle.xcf_store.specs.Word.{part};
 ghost use Rattle.xcf_walk.specs.Cursor.{Leads};
 ghost use Rattle.xcf_parse.specs.Header.{same, tags, versionIn, header};
+use xcf_numbers::refusal;
 use xcf_walk::cursor::Cursor;
 
 pub const MAGIC: [u8; 9] = *b"gimp xcf ";
@@ -66,11 +67,11 @@ pub(crate) fn header(cursor: Cursor, file: &[u8]) -> VersionRead
 {
     let start = cursor.at;
     let first = cursor.skip(file, 9);
-    let second = first.check(stands(file, start, &MAGIC), 2, start);
+    let second = first.check(stands(file, start, &MAGIC), refusal::NOT_XCF, start);
     let at = second.at;
     let third = second.skip(file, 5);
     let version = version_at(file, at);
-    let next = third.check(version < 4, 3, at);
+    let next = third.check(version < 4, refusal::BAD_VERSION, at);
     VersionRead {
         version,
         cursor: next,

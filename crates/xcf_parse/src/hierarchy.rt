@@ -4,11 +4,13 @@ ghost use Prim.Native.Nat.{_≤_};
 ghost use mathlib.Core.Bool.{_&&_};
 ghost use lib.ListN.{length};
 ghost use lib.Dec.{eqb};
+ghost use Rattle.xcf_numbers.specs.Limit.{sideLimit};
 ghost use Rattle.xcf_store.specs.Pointer.{PointerSize};
 ghost use Rattle.xcf_walk.specs.Cursor.{Leads, Reads};
 ghost use Rattle.xcf_parse.specs.Parts.{TilesLeft};
 ghost use Rattle.xcf_parse.specs.Hierarchy.{agrees, pointer, rest, tiles, hierarchy};
 use xcf_grid::tile_count;
+use xcf_numbers::refusal;
 use xcf_store::rising::rising_pointers;
 use xcf_walk::cursor::Cursor;
 use xcf_walk::cursor::WordRead;
@@ -32,7 +34,7 @@ fn agrees(cursor: Cursor, file: &[u8], v: u32) -> Cursor
     ensures { λ r. ⌜ Leads cursor (agrees v) (now (file .entry)) r tt ⌝ }
 {
     let n = cursor.word(file);
-    n.cursor.check(n.value == v, 10, cursor.at)
+    n.cursor.check(n.value == v, refusal::DISAGREES, cursor.at)
 }
 
 // A pointer that is not 0.
@@ -41,7 +43,7 @@ pub(crate) fn pointer(cursor: Cursor, file: &[u8], size: usize) -> WordRead
     ensures { λ r. ⌜ Leads cursor (pointer size) (now (file .entry)) (r .cursor) (r .value) ⌝ }
 {
     let p = cursor.pointer(file, size);
-    let next = p.cursor.check(p.value != 0, 9, cursor.at);
+    let next = p.cursor.check(p.value != 0, refusal::NO_POINTER, cursor.at);
     WordRead {
         value: p.value,
         cursor: next,
@@ -100,7 +102,11 @@ pub fn tiles(cursor: Cursor, file: &[u8], size: usize, n: u32) -> Cursor
     let right = right_tiles(cursor, file, size, n);
     let next = right.cursor;
     let p = next.pointer(file, size);
-    p.cursor.check(closes(right.count, n, p.value), 13, next.at)
+    p.cursor.check(
+        closes(right.count, n, p.value),
+        refusal::BAD_TILE_POINTER,
+        next.at,
+    )
 }
 
 // A hierarchy and its first level, for a drawable of these sides and this depth.
@@ -112,7 +118,7 @@ pub fn hierarchy(
     height: u32,
     depth: u32,
 ) -> PlaceRead
-    requires { ⌜ PointerSize size × (width ≤ 16384) × (height ≤ 16384) ⌝ }
+    requires { ⌜ PointerSize size × (width ≤ sideLimit) × (height ≤ sideLimit) ⌝ }
     ensures { λ r. ⌜ Reads cursor (hierarchy size width height depth) (now (file .entry)) 0 (r .cursor) (r .place) ⌝ }
     ensures { λ r. ⌜ r .place ≤ length (now (file .entry)) ⌝ }
 {

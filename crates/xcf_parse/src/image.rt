@@ -3,11 +3,16 @@ ghost use mathlib.Core.Path.{_≡_};
 ghost use Prim.Native.Nat.{_≤_};
 ghost use mathlib.Core.Bool.{cond};
 ghost use lib.Dec.{eqb};
+ghost use Rattle.xcf_numbers.specs.Limit.{sideLimit};
+ghost use Rattle.xcf_numbers.specs.Base;
 ghost use Rattle.xcf_walk.specs.Cursor.{Leads, Reads};
 ghost use Rattle.xcf_parse.specs.Image.{baseOk, baseType, head};
 ghost use Rattle.xcf_parse.specs.Parts.{fileStart, noHead};
 use crate::drawable::side;
 use crate::header::header;
+use xcf_numbers::base;
+use xcf_numbers::refusal;
+use xcf_property::IMAGE_LIST;
 use xcf_walk::cursor::Cursor;
 use xcf_walk::cursor::WordRead;
 use xcf_walk::cursor::start;
@@ -29,11 +34,11 @@ pub struct HeadRead {
 fn base_ok(version: u32, base: u32) -> bool
     ensures { λ r. ⌜ r ≡ baseOk version base ⌝ }
 {
-    if 2 < base {
+    if base::INDEXED < base {
         return false;
     }
     if version == 0 {
-        return base != 2;
+        return base != base::INDEXED;
     }
     true
 }
@@ -43,7 +48,7 @@ fn base_type(cursor: Cursor, file: &[u8], version: u32) -> WordRead
 {
     let base = cursor.word(file);
     let next = base.cursor
-        .check(base_ok(version, base.value), 5, cursor.at);
+        .check(base_ok(version, base.value), refusal::BAD_BASE, cursor.at);
     WordRead {
         value: base.value,
         cursor: next,
@@ -52,20 +57,21 @@ fn base_type(cursor: Cursor, file: &[u8], version: u32) -> WordRead
 
 // 1 for an indexed image.
 fn unmapped(base: u32) -> u32
-    ensures { λ r. ⌜ r ≡ cond (eqb base 2) 1 0 ⌝ }
+    ensures { λ r. ⌜ r ≡ cond (eqb base Base.indexed) 1 0 ⌝ }
 {
-    if base == 2 { 1 } else { 0 }
+    if base == base::INDEXED { 1 } else { 0 }
 }
 
 pub fn read_head(file: &[u8]) -> HeadRead
     ensures { λ r. ⌜ Reads fileStart head (now (file .entry)) noHead (r .cursor) (r .head) ⌝ }
-    ensures { λ r. ⌜ (r .head .width ≤ 16384) × (r .head .height ≤ 16384) ⌝ }
+    ensures { λ r. ⌜ (r .head .width ≤ sideLimit) × (r .head .height ≤ sideLimit) ⌝ }
 {
     let version = header(start(0), file);
     let width = side(version.cursor, file);
     let height = side(width.cursor, file);
     let base = base_type(height.cursor, file, version.version);
-    let p = base.cursor.properties(file, 0, unmapped(base.value));
+    let p = base.cursor
+        .properties(file, IMAGE_LIST, unmapped(base.value));
     let next = p.cursor;
     if next.number != 0 {
         return HeadRead {

@@ -4,6 +4,9 @@ use mathlib.Core.List.{List, [], _∷_}
 use mathlib.Core.Bool.{Bool, true, cond, _&&_}
 use lib.ListN.{length, getD}
 use lib.Dec.{leb, ltb, eqb}
+use Rattle.xcf_numbers.specs.Limit.{fullOpacity}
+use Rattle.xcf_numbers.specs.PropertyType
+use Rattle.xcf_numbers.specs.Kind
 use Rattle.xcf_property.specs.declared.Content.{Content}
 use Rattle.xcf_property.specs.declared.Properties.{Properties}
 use Rattle.xcf_store.specs.Word.{wordOf}
@@ -13,7 +16,7 @@ abbrev pub imageList : ℕ
 imageList = 0
 
 abbrev pub layerList : ℕ
-layerList = 1
+layerList = Kind.layer
 
 -- in the list below: a type that is skipped by its length
 abbrev pub any : ℕ
@@ -36,29 +39,31 @@ unfoldable pub contentOf : List ℕ → Content
 contentOf b = record { first = cond (eqb (length b) 1) (getD b 0 0) (wordOf b 0); second = wordOf b 4 }
 
 unfoldable pub isColourMap : ℕ → ℕ → Bool
-isColourMap list kind = eqb list imageList && eqb kind 1
+isColourMap list kind = eqb list imageList && eqb kind PropertyType.colourMap
 
 -- type 5 in a layer's list
 unfoldable pub isFloating : ℕ → ℕ → Bool
-isFloating list kind = eqb list layerList && eqb kind 5
+isFloating list kind = eqb list layerList && eqb kind PropertyType.floating
 
 -- the list ends, and an indexed image's colour map has not come
 unfoldable pub lacksMap : ℕ → Properties → Bool
-lacksMap kind p = eqb kind 0 && eqb (p .unmapped) 1
+lacksMap kind p = eqb kind PropertyType.end && eqb (p .unmapped) 1
 
 -- compression in the image's list is 0 or 1; in a drawable's, opacity is at most 255, visible and a layer's apply mask are 0 or 1
 unfoldable pub allowed : ℕ → ℕ → ℕ → Bool
 allowed list kind v =
     cond (eqb list imageList)
-    (cond (eqb kind 17) (leb v 1) true)
-    (cond (eqb kind 6) (leb v 255) (cond (eqb kind 8) (leb v 1) (cond (eqb list layerList && eqb kind 11) (leb v 1) true)))
+    (cond (eqb kind PropertyType.compression) (leb v 1) true)
+    (cond (eqb kind PropertyType.opacity) (leb v fullOpacity)
+    (cond (eqb kind PropertyType.visible) (leb v 1)
+    (cond (eqb list layerList && eqb kind PropertyType.apply) (leb v 1) true)))
 
 -- what holds where the list says nothing; unmapped is 1 for an indexed image
 abbrev pub absent : ℕ → ℕ → Properties
 absent list unmapped = record {
   compression = 0;
   unmapped = unmapped;
-  opacity = 255;
+  opacity = fullOpacity;
   mode = 0;
   visible = cond (eqb list layerList) 1 0;
   apply = 1;
@@ -71,22 +76,22 @@ absent list unmapped = record {
 
 -- the type that says a drawable is active
 unfoldable pub activeType : ℕ → ℕ
-activeType list = cond (eqb list layerList) 2 3
+activeType list = cond (eqb list layerList) PropertyType.activeLayer PropertyType.activeChannel
 
 -- the list after one more property: the last of a type stands
 unfoldable pub put : ℕ → ℕ → Content → Properties → Properties
 put list kind c p = record {
-  compression = cond (eqb kind 17) (c .first) (p .compression);
-  unmapped = cond (eqb kind 1) 0 (p .unmapped);
-  opacity = cond (eqb kind 6) (c .first) (p .opacity);
-  mode = cond (eqb kind 7) (c .first) (p .mode);
-  visible = cond (eqb kind 8) (c .first) (p .visible);
-  apply = cond (eqb kind 11) (c .first) (p .apply);
-  dx = cond (eqb kind 15) (c .first) (p .dx);
-  dy = cond (eqb kind 15) (c .second) (p .dy);
+  compression = cond (eqb kind PropertyType.compression) (c .first) (p .compression);
+  unmapped = cond (eqb kind PropertyType.colourMap) 0 (p .unmapped);
+  opacity = cond (eqb kind PropertyType.opacity) (c .first) (p .opacity);
+  mode = cond (eqb kind PropertyType.mode) (c .first) (p .mode);
+  visible = cond (eqb kind PropertyType.visible) (c .first) (p .visible);
+  apply = cond (eqb kind PropertyType.apply) (c .first) (p .apply);
+  dx = cond (eqb kind PropertyType.offsets) (c .first) (p .dx);
+  dy = cond (eqb kind PropertyType.offsets) (c .second) (p .dy);
   active = cond (eqb kind (activeType list)) 1 (p .active);
-  selection = cond (eqb kind 4) 1 (p .selection);
-  group = cond (eqb kind 29) 1 (p .group);
+  selection = cond (eqb kind PropertyType.selection) 1 (p .selection);
+  group = cond (eqb kind PropertyType.groupItem) 1 (p .group);
 }
 
 -- the values beside a refusal

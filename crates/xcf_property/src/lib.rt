@@ -5,7 +5,10 @@ ghost use mathlib.Core.Bool.{cond};
 ghost use lib.ListN.{length};
 ghost use lib.Dec.{eqb};
 ghost use Rattle.xcf_store.specs.Word.{part, wordOf};
-ghost use Rattle.xcf_property.specs.Property.{lengthOk, contentOf, isColourMap, isFloating, lacksMap, allowed, absent, activeType, put, noProperties};
+ghost use Rattle.xcf_property.specs.Property.{lengthOk, contentOf, isColourMap, isFloating, lacksMap, allowed, absent, activeType, put, noProperties, imageList, layerList};
+use xcf_numbers::kind;
+use xcf_numbers::limit::FULL_OPACITY;
+use xcf_numbers::property_type;
 use xcf_store::word::wide;
 use xcf_store::word::word_at;
 
@@ -30,6 +33,12 @@ pub struct Properties {
     pub group: u32,
 }
 
+// Whose list it is: the image's, or a drawable's by its row's kind.
+pub const IMAGE_LIST: u32 = 0;
+
+pub const LAYER_LIST: u32 = kind::LAYER;
+
+// In the list below: a type that is skipped by its length.
 const ANY: u32 = 4294967295;
 
 // The payload lengths of types 0 to 29.
@@ -115,42 +124,58 @@ pub fn content_of(file: &[u8], place: usize, n: usize) -> Content
 pub fn is_colour_map(list: u32, kind: u32) -> bool
     ensures { λ r. ⌜ r ≡ isColourMap list kind ⌝ }
 {
-    if list == 0 { kind == 1 } else { false }
+    if list == IMAGE_LIST {
+        kind == property_type::COLOUR_MAP
+    } else {
+        false
+    }
 }
 
 pub fn is_floating(list: u32, kind: u32) -> bool
     ensures { λ r. ⌜ r ≡ isFloating list kind ⌝ }
 {
-    if list == 1 { kind == 5 } else { false }
+    if list == LAYER_LIST {
+        kind == property_type::FLOATING
+    } else {
+        false
+    }
 }
 
 pub fn lacks_map(kind: u32, p: Properties) -> bool
     ensures { λ r. ⌜ r ≡ lacksMap kind p ⌝ }
 {
-    if kind == 0 { p.unmapped == 1 } else { false }
+    if kind == property_type::END {
+        p.unmapped == 1
+    } else {
+        false
+    }
 }
 
 fn allowed_in_image(kind: u32, v: u32) -> bool
-    ensures { λ r. ⌜ r ≡ allowed 0 kind v ⌝ }
+    ensures { λ r. ⌜ r ≡ allowed imageList kind v ⌝ }
 {
-    if kind == 17 { v <= 1 } else { true }
+    if kind == property_type::COMPRESSION {
+        v <= 1
+    } else {
+        true
+    }
 }
 
 // Whether a property of this type may have the content v.
 pub fn allowed(list: u32, kind: u32, v: u32) -> bool
     ensures { λ r. ⌜ r ≡ allowed list kind v ⌝ }
 {
-    if list == 0 {
+    if list == IMAGE_LIST {
         return allowed_in_image(kind, v);
     }
-    if kind == 6 {
-        return v <= 255;
+    if kind == property_type::OPACITY {
+        return v <= FULL_OPACITY;
     }
-    if kind == 8 {
+    if kind == property_type::VISIBLE {
         return v <= 1;
     }
-    if list == 1 {
-        if kind == 11 {
+    if list == LAYER_LIST {
+        if kind == property_type::APPLY {
             return v <= 1;
         }
     }
@@ -167,13 +192,17 @@ fn pick(kind: u32, want: u32, new: u32, old: u32) -> u32
 pub fn active_type(list: u32) -> u32
     ensures { λ r. ⌜ r ≡ activeType list ⌝ }
 {
-    if list == 1 { 2 } else { 3 }
+    if list == LAYER_LIST {
+        property_type::ACTIVE_LAYER
+    } else {
+        property_type::ACTIVE_CHANNEL
+    }
 }
 
 fn visible_unsaid(list: u32) -> u32
-    ensures { λ r. ⌜ r ≡ cond (eqb list 1) 1 0 ⌝ }
+    ensures { λ r. ⌜ r ≡ cond (eqb list layerList) 1 0 ⌝ }
 {
-    if list == 1 { 1 } else { 0 }
+    if list == LAYER_LIST { 1 } else { 0 }
 }
 
 impl Properties {
@@ -202,7 +231,7 @@ impl Properties {
         Properties {
             compression: 0,
             unmapped,
-            opacity: 255,
+            opacity: FULL_OPACITY,
             mode: 0,
             visible: visible_unsaid(list),
             apply: 1,
@@ -220,17 +249,17 @@ impl Properties {
     {
         let first = content.first;
         Properties {
-            compression: pick(kind, 17, first, self.compression),
-            unmapped: pick(kind, 1, 0, self.unmapped),
-            opacity: pick(kind, 6, first, self.opacity),
-            mode: pick(kind, 7, first, self.mode),
-            visible: pick(kind, 8, first, self.visible),
-            apply: pick(kind, 11, first, self.apply),
-            dx: pick(kind, 15, first, self.dx),
-            dy: pick(kind, 15, content.second, self.dy),
+            compression: pick(kind, property_type::COMPRESSION, first, self.compression),
+            unmapped: pick(kind, property_type::COLOUR_MAP, 0, self.unmapped),
+            opacity: pick(kind, property_type::OPACITY, first, self.opacity),
+            mode: pick(kind, property_type::MODE, first, self.mode),
+            visible: pick(kind, property_type::VISIBLE, first, self.visible),
+            apply: pick(kind, property_type::APPLY, first, self.apply),
+            dx: pick(kind, property_type::OFFSETS, first, self.dx),
+            dy: pick(kind, property_type::OFFSETS, content.second, self.dy),
             active: pick(kind, active_type(list), 1, self.active),
-            selection: pick(kind, 4, 1, self.selection),
-            group: pick(kind, 29, 1, self.group),
+            selection: pick(kind, property_type::SELECTION, 1, self.selection),
+            group: pick(kind, property_type::GROUP_ITEM, 1, self.group),
         }
     }
 }

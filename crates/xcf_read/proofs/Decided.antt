@@ -7,11 +7,12 @@ use mathlib.Core.List.{List}
 use native.Mathlib.Omega.{arith}
 use borrow.Author.Tests.{le-leb, eq-eqb}
 use lib.ListN.{length}
+use Rattle.xcf_numbers.specs.Limit.{fileLimit, tableRows, tableSize}
 use Rattle.xcf_walk.specs.declared.cursor.Cursor.{Cursor}
 use Rattle.xcf_walk.specs.Walk.{Outcome, got}
 use Rattle.xcf_walk.specs.Cursor.{outcome, resume, Leads}
 use Rattle.xcf_walk.proofs.Resume.{is-live, is-refused}
-use Rattle.xcf_table.specs.Table.{tableSize, clearFrom, rowsIn, fileLimit}
+use Rattle.xcf_table.specs.Table.{clearFrom, rowsIn}
 use Rattle.xcf_table.proofs.Puts.{cleared-table}
 use Rattle.xcf_parse.specs.declared.image.Head.{Head}
 use Rattle.xcf_store.specs.Pointer.{pointerSize}
@@ -26,7 +27,7 @@ module _ {f old : List ℕ} {end : Cursor} {h : Head} {k : ℕ} (t : List ℕ) (
   decided e = record { answer = rw (eq-eqb _ _ size, le-leb _ _ small, ← l .gives, e); table = rw (eq-eqb _ _ size, le-leb _ _ small, ← l .gives, e) }
 
   module _ {new : List ℕ} (kept : length t ≡ tableSize) where
-    pub accepted : end .number ≡ 0 → k ≤ 128 → new ≡ clearFrom t k → Read f old (readingOf (got (record { head = h; rows = rowsIn k t }) (end .at)) .answer) new
+    pub accepted : end .number ≡ 0 → k ≤ tableRows → new ≡ clearFrom t k → Read f old (readingOf (got (record { head = h; rows = rowsIn k t }) (end .at)) .answer) new
     unfolding outcome
     accepted live few cleared = rw (cleared, cleared-table t k kept (omega arith)) (decided (is-live end _ _ live))
 

@@ -10,6 +10,7 @@ use native.Mathlib.Omega.{arith}
 use borrow.Author.Tests.{le-leb, eqb-true}
 use lib.Dec.{eqb}
 use lib.ListN.{length}
+use Rattle.xcf_numbers.specs.Kind
 use Rattle.xcf_walk.specs.declared.cursor.Cursor.{Cursor}
 use Rattle.xcf_walk.specs.Walk.{got, refused, run, bytes, jump}
 use Rattle.xcf_store.specs.Pointer.{numberAt}
@@ -40,7 +41,7 @@ number-live size {c} {d} {f} {v} l h fits = go (eqb (d .number) 0) refl (l .give
 -- what the first of some drawables may take, and the others
 rows-one-more : (kind n : ℕ) → rowsMost kind (suc n) ≡ rowsMost kind 1 + rowsMost kind n
 unfolding rowsMost
-rows-one-more kind n = go (eqb kind 1)
+rows-one-more kind n = go (eqb kind Kind.layer)
   where
     go : (t : Bool) → cond t (2 * suc n) (suc n) ≡ cond t 2 1 + cond t (2 * n) n
     go true = omega arith

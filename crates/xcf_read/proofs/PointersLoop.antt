@@ -12,6 +12,7 @@ use native.Mathlib.Omega.{arith}
 use borrow.Author.Tests.{ltb-true, lt-ltb, eqb-true, eqb-false, eq-eqb, ne-eqb}
 use lib.Dec.{ltb, eqb}
 use lib.ListN.{length}
+use Rattle.xcf_numbers.specs.Refusal
 use Rattle.xcf_walk.specs.declared.cursor.Cursor.{Cursor}
 use Rattle.xcf_store.specs.Pointer.{numberAt}
 use Rattle.xcf_walk.specs.Fields.{number}
@@ -23,7 +24,7 @@ use Rattle.xcf_read.specs.Parts.{pointersAt, Another, PointerRead}
 use Rattle.xcf_parse.proofs.Pointers.{read-is-live}
 
 module _ (size : ℕ) {c d : Cursor} {f : List ℕ} {v : ℕ} (r : Reads c (number size) f 0 d v) where
-  none-left : {next : Cursor} {test : Bool} → test ≡ eqb v 0 → next ≡ checked d test 8 (c .at) → Leads c (pointers size 0) f next []
+  none-left : {next : Cursor} {test : Bool} → test ≡ eqb v 0 → next ≡ checked d test Refusal.tooMany (c .at) → Leads c (pointers size 0) f next []
   unfolding pointers
   none-left t e = then-here _ _ (λ _. refl) (then _ (r .leads) (then _ (by-check d _ _ _ (omega arith) t e) ends))
 
@@ -42,11 +43,11 @@ module _ (size : ℕ) {c d : Cursor} {f : List ℕ} {v : ℕ} (r : Reads c (numb
 
   module _ {next : Cursor} (pointer : v ≡ 0 → ⊥) where
     -- a pointer is refused where none is left
-    too-many : (left : ℕ) → next ≡ checked d (ltb 0 left) 8 (c .at) → (next .number ≡ 0 → ⊥) → Leads c (pointers size left) f next []
+    too-many : (left : ℕ) → next ≡ checked d (ltb 0 left) Refusal.tooMany (c .at) → (next .number ≡ 0 → ⊥) → Leads c (pointers size left) f next []
     too-many zero e h = none-left (sym (ne-eqb _ _ pointer)) e
     too-many (suc left) e h = absurd (h (ap (λ x. x .number) (check-live d _ _ _ e (lt-ltb 0 (suc left) (omega arith))) ∙ read-is-live r pointer))
 
-    pub turn-read : (left : ℕ) → next ≡ checked d (ltb 0 left) 8 (c .at) → PointerRead size c f left (eqb (next .number) 0) next
+    pub turn-read : (left : ℕ) → next ≡ checked d (ltb 0 left) Refusal.tooMany (c .at) → PointerRead size c f left (eqb (next .number) 0) next
     turn-read left e = record {
       within = λ h. rw (kept h .0) (let w = read in (w .0, w .1));
       another = λ t. let k = kept (eqb-true _ _ t) in record { room = ltb-true _ _ (k .1); live = eqb-true _ _ t; read = rw (k .0, ← read .2) (r .leads); nonzero = λ z. pointer (read .2 ∙ z) };

@@ -5,8 +5,10 @@ use mathlib.Core.List.{List, [], _∷_}
 use mathlib.Core.Bool.{Bool, false, cond, _||_}
 use lib.ListN.{length}
 use lib.Dec.{leb, eqb}
+use Rattle.xcf_numbers.specs.Limit.{fileLimit, tableSize}
+use Rattle.xcf_numbers.specs.Refusal
 use Rattle.xcf_walk.specs.Walk.{Outcome, got, refused, run}
-use Rattle.xcf_table.specs.Table.{tableSize, noRows, tableOf, fileLimit, rowAt}
+use Rattle.xcf_table.specs.Table.{noRows, tableOf, rowAt}
 use Rattle.xcf_read.specs.declared.ReadAnswer.{ReadAnswer}
 use Rattle.xcf_store.specs.Pointer.{pointerSize}
 use Rattle.xcf_read.specs.Image.{Image, image}
@@ -41,12 +43,15 @@ readingOf (refused n p) = record { answer = refusal n p; table = tableOf noRows 
 unfoldable pub reading : List ℕ → List ℕ → Reading
 reading file table =
     cond (eqb (length table) tableSize)
-    (cond (leb (length file) fileLimit) (readingOf (run (image pointerSize) file 0)) (record { answer = refusal 15 0; table = table }))
-    (record { answer = refusal 11 0; table = table })
+    (cond (leb (length file) fileLimit) (readingOf (run (image pointerSize) file 0))
+    (record { answer = refusal Refusal.tooLong 0; table = table }))
+    (record { answer = refusal Refusal.wrongBuffer 0; table = table })
 
 -- the numbers of the walk's refusals
 abbrev pub refusals : List ℕ
-refusals = 1 ∷ 2 ∷ 3 ∷ 4 ∷ 5 ∷ 6 ∷ 7 ∷ 8 ∷ 9 ∷ 10 ∷ 12 ∷ 13 ∷ 16 ∷ []
+refusals =
+    Refusal.pastEnd ∷ Refusal.notXcf ∷ Refusal.badVersion ∷ Refusal.badSide ∷ Refusal.badBase ∷ Refusal.badLength ∷ Refusal.badContent
+    ∷ Refusal.tooMany ∷ Refusal.noPointer ∷ Refusal.disagrees ∷ Refusal.unendedString ∷ Refusal.badTilePointer ∷ Refusal.floating ∷ []
 
 unfoldable pub listed : List ℕ → ℕ → Bool
 listed [] n = false

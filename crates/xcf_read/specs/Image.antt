@@ -3,6 +3,8 @@ use Prim.Native.Nat.{ℕ, zero, suc}
 use mathlib.Core.List.{List, [], _∷_}
 use mathlib.Core.Bool.{cond}
 use lib.Dec.{eqb}
+use Rattle.xcf_numbers.specs.Limit.{layerLimit, channelLimit}
+use Rattle.xcf_numbers.specs.Refusal
 use Rattle.xcf_walk.specs.Walk.{Walk, done, here, jump, must, PassedOver, _>>=_, _>>_}
 use Rattle.xcf_walk.specs.Fields.{number}
 use Rattle.xcf_table.specs.Table.{Rows, noRows}
@@ -16,7 +18,7 @@ unfoldable pub pointers : ℕ → ℕ → Walk (List ℕ)
 pointers size zero = do
   at ← here
   p ← number size
-  must (eqb p 0) 8 at
+  must (eqb p 0) Refusal.tooMany at
   done []
 pointers size (suc most) = do
   p ← number size
@@ -45,8 +47,8 @@ canvasOf h = record { width = h .width; height = h .height; base = h .base }
 unfoldable pub image : ℕ → Walk Image
 image size = do
   h ← head
-  layers ← pointers size 48
-  channels ← pointers size 32
+  layers ← pointers size layerLimit
+  channels ← pointers size channelLimit
   first ← drawables (layerRows size (canvasOf h)) layers noRows
   all ← drawables (canvasChannelRows size (canvasOf h)) channels first
   done (record { head = h; rows = all })

@@ -5,6 +5,7 @@ use mathlib.Core.List.{List, [], _∷_}
 use mathlib.Core.Bool.{Bool, true, false, cond}
 use lib.ListN.{length}
 use lib.Dec.{eqb}
+use Rattle.xcf_numbers.specs.Kind
 use Rattle.xcf_walk.specs.declared.cursor.Cursor.{Cursor}
 use Rattle.xcf_walk.specs.Walk.{Walk}
 use Rattle.xcf_walk.specs.Fields.{number}
@@ -22,11 +23,11 @@ pub record Filled (c : Cursor) (w : Walk Rows) (f old : List ℕ) (d : Cursor) (
 
 -- the drawable of a kind: 1 a layer, with its mask, or 3 a channel
 unfoldable pub drawable : ℕ → ℕ → Canvas → Rows → Walk Rows
-drawable size kind c = cond (eqb kind 1) (layerRows size c) (canvasChannelRows size c)
+drawable size kind c = cond (eqb kind Kind.layer) (layerRows size c) (canvasChannelRows size c)
 
 -- so many rows at most for n drawables of a kind: a layer may have a mask
 unfoldable pub rowsMost : ℕ → ℕ → ℕ
-rowsMost kind n = cond (eqb kind 1) (2 * n) n
+rowsMost kind n = cond (eqb kind Kind.layer) (2 * n) n
 
 -- n pointers, one after another from a place on
 unfoldable pub pointersAt : ℕ → List ℕ → ℕ → ℕ → List ℕ

@@ -2,10 +2,12 @@
 ghost use mathlib.Core.Path.{_≡_};
 ghost use Prim.Native.Nat.{_+_, _*_, _≤_, _<_};
 ghost use lib.ListN.{length};
+ghost use Rattle.xcf_numbers.specs.Limit.{fileLimit, sideLimit, rowSize, tableRows, tableSize};
 ghost use Rattle.xcf_store.specs.Pointer.{PointerSize};
-ghost use Rattle.xcf_table.specs.Table.{rowSize, tableSize, rowsIn, fileLimit};
+ghost use Rattle.xcf_table.specs.Table.{rowsIn};
 ghost use Rattle.xcf_read.specs.Drawable.{channelRows, maskRows, layerRows};
 ghost use Rattle.xcf_read.specs.Parts.{drawable, Filled, rowsMost};
+use xcf_numbers::kind;
 use xcf_parse::drawable::Layer;
 use xcf_parse::drawable::Owner;
 use xcf_parse::drawable::read_channel;
@@ -35,8 +37,8 @@ fn channel_rows(
     o: Owner,
     k: u32,
 ) -> RowsRead
-    requires { ⌜ PointerSize size × (length (now file) ≤ fileLimit) × (o .width ≤ 16384) × (o .height ≤ 16384) ⌝ }
-    requires { ⌜ (k < 128) × (rowSize * (k + 1) ≤ length (now table)) ⌝ }
+    requires { ⌜ PointerSize size × (length (now file) ≤ fileLimit) × (o .width ≤ sideLimit) × (o .height ≤ sideLimit) ⌝ }
+    requires { ⌜ (k < tableRows) × (rowSize * (k + 1) ≤ length (now table)) ⌝ }
     ensures { λ r. ⌜ Filled cursor (channelRows size o (rowsIn k (now (table .entry)))) (now (file .entry)) (now (table .entry)) (r .cursor) (r .rows) (now (table .exit)) ⌝ }
     ensures { λ r. ⌜ r .rows ≡ k + 1 ⌝ }
 {
@@ -61,8 +63,8 @@ fn mask_rows(
     x: Layer,
     k: u32,
 ) -> RowsRead
-    requires { ⌜ PointerSize size × (length (now file) ≤ fileLimit) × (x .width ≤ 16384) × (x .height ≤ 16384) ⌝ }
-    requires { ⌜ (k < 127) × (rowSize * (k + 2) ≤ length (now table)) ⌝ }
+    requires { ⌜ PointerSize size × (length (now file) ≤ fileLimit) × (x .width ≤ sideLimit) × (x .height ≤ sideLimit) ⌝ }
+    requires { ⌜ (k + 1 < tableRows) × (rowSize * (k + 2) ≤ length (now table)) ⌝ }
     ensures { λ r. ⌜ Filled cursor (maskRows size x k (rowsIn (k + 1) (now (table .entry)))) (now (file .entry)) (now (table .entry)) (r .cursor) (r .rows) (now (table .exit)) ⌝ }
     ensures { λ r. ⌜ r .rows ≤ k + 2 ⌝ }
 {
@@ -86,7 +88,7 @@ fn layer_rows(
     k: u32,
 ) -> RowsRead
     requires { ⌜ PointerSize size × (length (now file) ≤ fileLimit) ⌝ }
-    requires { ⌜ (k < 127) × (rowSize * (k + 2) ≤ length (now table)) ⌝ }
+    requires { ⌜ (k + 1 < tableRows) × (rowSize * (k + 2) ≤ length (now table)) ⌝ }
     ensures { λ r. ⌜ Filled cursor (layerRows size c (rowsIn k (now (table .entry)))) (now (file .entry)) (now (table .entry)) (r .cursor) (r .rows) (now (table .exit)) ⌝ }
     ensures { λ r. ⌜ r .rows ≤ k + 2 ⌝ }
 {
@@ -109,12 +111,12 @@ pub(crate) fn drawable(
     c: Canvas,
     k: u32,
 ) -> RowsRead
-    requires { ⌜ PointerSize size × (length (now file) ≤ fileLimit) × (c .width ≤ 16384) × (c .height ≤ 16384) ⌝ }
-    requires { ⌜ (k + rowsMost kind 1 ≤ 128) × (length (now table) ≡ tableSize) ⌝ }
+    requires { ⌜ PointerSize size × (length (now file) ≤ fileLimit) × (c .width ≤ sideLimit) × (c .height ≤ sideLimit) ⌝ }
+    requires { ⌜ (k + rowsMost kind 1 ≤ tableRows) × (length (now table) ≡ tableSize) ⌝ }
     ensures { λ r. ⌜ Filled cursor (drawable size kind c (rowsIn k (now (table .entry)))) (now (file .entry)) (now (table .entry)) (r .cursor) (r .rows) (now (table .exit)) ⌝ }
     ensures { λ r. ⌜ r .rows ≤ k + rowsMost kind 1 ⌝ }
 {
-    if kind == 1 {
+    if kind == kind::LAYER {
         layer_rows(cursor, file, size, table, c, k)
     } else {
         channel_rows(cursor, file, size, table, channel_owner(c, k), k)

@@ -2,15 +2,18 @@
 ghost use mathlib.Core.Path.{_≡_};
 ghost use Prim.Native.Nat.{_+_, _*_, _≤_};
 ghost use lib.ListN.{length};
+ghost use Rattle.xcf_numbers.specs.Limit.{fileLimit, sideLimit, layerLimit, tableRows, tableSize};
 ghost use Rattle.xcf_walk.specs.Cursor.{Leads};
 ghost use Rattle.xcf_store.specs.Pointer.{PointerSize};
-ghost use Rattle.xcf_table.specs.Table.{tableSize, rowsIn, fileLimit};
+ghost use Rattle.xcf_table.specs.Table.{rowsIn};
 ghost use Rattle.xcf_parse.specs.Image.{head};
 ghost use Rattle.xcf_read.specs.Image.{pointers, canvasOf, drawables, image};
 ghost use Rattle.xcf_read.specs.Parts.{drawable, Filled, rowsMost, pointersAt, PointerRead};
 ghost use Rattle.xcf_parse.specs.Parts.{fileStart};
 use crate::drawable::RowsRead;
 use crate::drawable::drawable;
+use xcf_numbers::kind;
+use xcf_numbers::refusal;
 use xcf_parse::image::Head;
 use xcf_parse::image::read_head;
 use xcf_table::canvas::Canvas;
@@ -48,7 +51,7 @@ fn pointer_turn(cursor: Cursor, file: &[u8], size: usize, left: u32) -> PointerT
             cursor: next,
         };
     }
-    let next = p.cursor.check(0 < left, 8, cursor.at);
+    let next = p.cursor.check(0 < left, refusal::TOO_MANY, cursor.at);
     PointerTurn {
         again: next.number == 0,
         cursor: next,
@@ -90,8 +93,8 @@ fn drawables(
     n: u32,
     k: u32,
 ) -> RowsRead
-    requires { ⌜ PointerSize size × (length (now file) ≤ fileLimit) × (c .width ≤ 16384) × (c .height ≤ 16384) ⌝ }
-    requires { ⌜ (n ≤ 48) × (k + rowsMost kind n ≤ 128) × (length (now table) ≡ tableSize) ⌝ }
+    requires { ⌜ PointerSize size × (length (now file) ≤ fileLimit) × (c .width ≤ sideLimit) × (c .height ≤ sideLimit) ⌝ }
+    requires { ⌜ (n ≤ layerLimit) × (k + rowsMost kind n ≤ tableRows) × (length (now table) ≡ tableSize) ⌝ }
     requires { ⌜ (cursor .number ≡ 0 → at + size * n ≤ length (now file)) ⌝ }
     ensures { λ r. ⌜ Filled cursor (drawables (drawable size kind c) (pointersAt size (now (file .entry)) at n) (rowsIn k (now (table .entry)))) (now (file .entry)) (now (table .entry)) (r .cursor) (r .rows) (now (table .exit)) ⌝ }
     ensures { λ r. ⌜ r .rows ≤ k + rowsMost kind n ⌝ }
@@ -126,7 +129,7 @@ fn canvas_of(h: Head) -> Canvas
 pub(crate) fn image(file: &[u8], size: usize, table: &mut [u32]) -> ImageRead
     requires { ⌜ PointerSize size × (length (now file) ≤ fileLimit) × (length (now table) ≡ tableSize) ⌝ }
     ensures { λ r. ⌜ Leads fileStart (image size) (now (file .entry)) (r .cursor) (record { head = r .head; rows = rowsIn (r .rows) (now (table .exit)) }) ⌝ }
-    ensures { λ r. ⌜ (r .rows ≤ 128) × (length (now (table .exit)) ≡ tableSize) ⌝ }
+    ensures { λ r. ⌜ (r .rows ≤ tableRows) × (length (now (table .exit)) ≡ tableSize) ⌝ }
 {
     let read = read_head(file);
     let h = read.head;
@@ -138,7 +141,7 @@ pub(crate) fn image(file: &[u8], size: usize, table: &mut [u32]) -> ImageRead
         file,
         size,
         table,
-        1,
+        kind::LAYER,
         c,
         read.cursor.at,
         layers.count,
@@ -149,7 +152,7 @@ pub(crate) fn image(file: &[u8], size: usize, table: &mut [u32]) -> ImageRead
         file,
         size,
         table,
-        3,
+        kind::CHANNEL,
         c,
         layers.cursor.at,
         channels.count,

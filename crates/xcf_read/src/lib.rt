@@ -5,9 +5,10 @@ mod image;
 ghost use mathlib.Core.Path.{_≡_};
 ghost use Rattle.xcf_read.specs.Answer.{refusal, Read};
 use crate::image::image;
+use xcf_numbers::limit::FILE_LIMIT;
+use xcf_numbers::limit::TABLE_SIZE;
+use xcf_numbers::refusal;
 use xcf_store::pointer::POINTER_SIZE;
-use xcf_table::FILE_LIMIT;
-use xcf_table::TABLE_SIZE;
 use xcf_table::clear_from;
 
 // What acceptance gives; a refusal's other fields are 0.
@@ -43,10 +44,10 @@ pub fn read(file: &[u8], table: &mut [u32]) -> ReadAnswer
     ensures { λ r. ⌜ Read (now (file .entry)) (now (table .entry)) r (now (table .exit)) ⌝ }
 {
     if table.len() != TABLE_SIZE {
-        return refusal(11, 0);
+        return refusal(refusal::WRONG_BUFFER, 0);
     }
     if FILE_LIMIT < file.len() {
-        return refusal(15, 0);
+        return refusal(refusal::TOO_LONG, 0);
     }
     let x = image(file, POINTER_SIZE, table);
     let end = x.cursor;

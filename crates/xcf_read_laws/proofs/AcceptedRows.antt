@@ -8,12 +8,13 @@ use mathlib.Core.Logic.{⊎-elim}
 use native.Mathlib.Omega.{arith}
 use lib.Dec.{eqb}
 use lib.ListN.{length, length-append}
+use Rattle.xcf_numbers.specs.Limit.{sideLimit, depthLimit, layerLimit, channelLimit, rowSize, tableRows}
 use Rattle.xcf_walk.specs.Walk.{Walk, got, run, PassedOver, done, here, jump, _>>=_}
 use Rattle.xcf_laws.proofs.Cases.{below-or}
 use Rattle.xcf_walk.proofs.Walks.{parted, got-done}
 use Rattle.xcf_walk.proofs.Straight.{Straight, straight-bind, straight-here, straight-length, straight-number, straight-must, all-passed, passed-first}
 use Rattle.xcf_table.specs.declared.Row.{Row}
-use Rattle.xcf_table.specs.Table.{rowSize, rowNumbers, rowIn, Rows, noRows, addRow}
+use Rattle.xcf_table.specs.Table.{rowNumbers, rowIn, Rows, noRows, addRow}
 use Rattle.xcf_table.proofs.Rows.{row-in-front, row-added}
 use Rattle.xcf_grid.specs.Grid.{tileCount}
 use Rattle.xcf_table.specs.declared.canvas.Canvas.{Canvas}
@@ -34,14 +35,14 @@ pub record PointersRead (size : ℕ) (f : List ℕ) (S : ℕ → Type 0) (count 
 
 pub record RowRead (size : ℕ) (f : List ℕ) (structure : ℕ → Type 0) (r : Row) : Type 0 where
   pub kind : (1 ≤ r .kind) × (r .kind ≤ 3)
-  pub width : (1 ≤ r .width) × (r .width ≤ 16384)
-  pub height : (1 ≤ r .height) × (r .height ≤ 16384)
-  pub depth : (1 ≤ r .depth) × (r .depth ≤ 4)
+  pub width : (1 ≤ r .width) × (r .width ≤ sideLimit)
+  pub height : (1 ≤ r .height) × (r .height ≤ sideLimit)
+  pub depth : (1 ≤ r .depth) × (r .depth ≤ depthLimit)
   pub count : r .count ≡ tileCount (r .width) (r .height)
   pub tiles : PointersRead size f structure (r .count) (r .tiles)
 
 pub record ImageRead (size : ℕ) (f : List ℕ) (x : Image) : Type 0 where
-  pub few : x .rows .count ≤ 128
+  pub few : x .rows .count ≤ tableRows
   pub long : length (x .rows .numbers) ≡ rowSize * x .rows .count
   pub compression : x .head .compression ≤ 1
   pub row : (k : ℕ) → k < x .rows .count → RowRead size f (structureByte size f) (rowIn (x .rows .numbers) (rowSize * k))
@@ -134,9 +135,9 @@ module _ {size : ℕ} {f : List ℕ} {S : ℕ → Type 0} where
 ensures-image : (size : ℕ) (f : List ℕ) → Ensures f (structureByte size f) (ImageRead size f) (image size)
 unfolding image canvasChannelRows channelOwner
 ensures-image size f =
-    ensures-bind _ ensures-head λ h c. ensures-bind _ (ensures-pointers size 48) λ layers l. ensures-bind _ (ensures-pointers size 32) λ channels m.
+    ensures-bind _ ensures-head λ h c. ensures-bind _ (ensures-pointers size layerLimit) λ layers l. ensures-bind _ (ensures-pointers size channelLimit) λ channels m.
     ensures-bind _ (ensures-drawables _ 2 96 (λ _ _. ensures-layer-rows _) layers (omega arith) no-rows-read) λ first x.
-    ensures-bind _ (ensures-drawables _ 1 128 (λ _ _. ensures-channel-rows _ (omega arith)) channels (omega arith) x) λ all y.
+    ensures-bind _ (ensures-drawables _ 1 tableRows (λ _ _. ensures-channel-rows _ (omega arith)) channels (omega arith) x) λ all y.
     ensures-done (record { few = y .few; long = y .long; compression = c; row = y .row })
 
 pub accepted-rows : (size : ℕ) (f : List ℕ) {x : Image} {q : ℕ} → got x q ≡ run (image size) f 0 → ImageRead size f x

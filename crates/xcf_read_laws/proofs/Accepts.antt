@@ -6,9 +6,9 @@ use mathlib.Core.Path.{_≡_}
 use mathlib.Core.List.{List}
 use borrow.Author.Tests.{le-leb, eq-eqb}
 use lib.ListN.{length}
+use Rattle.xcf_numbers.specs.Limit.{fileLimit, tableSize}
 use Rattle.xcf_store.specs.Pointer.{pointerSize}
 use Rattle.xcf_walk.specs.Walk.{got}
-use Rattle.xcf_table.specs.Table.{tableSize, fileLimit}
 use Rattle.xcf_table.proofs.Tables.{table-length, table-row}
 use Rattle.xcf_read.specs.Image.{Image, structureByte}
 use Rattle.xcf_read.specs.Answer.{Reading, readingOf, reading, rowOf}

@@ -5,6 +5,8 @@ use mathlib.Core.Path.{_≡_, refl}
 use mathlib.Core.List.{List, [], _∷_}
 use mathlib.Core.Bool.{true}
 use lib.Dec.{eqb}
+use Rattle.xcf_numbers.specs.Limit.{layerLimit, channelLimit}
+use Rattle.xcf_numbers.specs.Refusal
 use Rattle.xcf_walk.specs.Walk.{Walk, refused, run}
 use Rattle.xcf_walk.specs.Fields.{number, word, string}
 use Rattle.xcf_property.specs.declared.Properties.{Properties}
@@ -40,17 +42,17 @@ numbered-string : Numbered string
 unfolding string listed
 numbered-string =
     refuses-bind _ refuses-here λ at. refuses-bind _ numbered-word λ n. refuses-bind _ refuses-here λ place.
-    refuses-bind _ (refuses-bytes n refl) λ b. refuses-bind _ (refuses-must _ 12 at refl) λ _. refuses-done
+    refuses-bind _ (refuses-bytes n refl) λ b. refuses-bind _ (refuses-must _ Refusal.unendedString at refl) λ _. refuses-done
 
 numbered-payload : (kind at n : ℕ) → Numbered (payload kind at n)
 unfolding payload listed
-numbered-payload kind at n = refuses-bind _ (refuses-must _ 6 at refl) λ _. refuses-bind _ (refuses-bytes n refl) λ b. refuses-done
+numbered-payload kind at n = refuses-bind _ (refuses-must _ Refusal.badLength at refl) λ _. refuses-bind _ (refuses-bytes n refl) λ b. refuses-done
 
 numbered-colour-map : (at n : ℕ) → Numbered (colourMap at n)
 unfolding colourMap listed
 numbered-colour-map at n =
-    refuses-bind _ (refuses-must _ 6 at refl) λ _. refuses-bind _ refuses-here λ here. refuses-bind _ numbered-word λ count.
-    refuses-bind _ (refuses-must _ 7 here refl) λ _. refuses-bind _ (refuses-must _ 6 at refl) λ _. refuses-bind _ (refuses-bytes _ refl) λ b. refuses-done
+    refuses-bind _ (refuses-must _ Refusal.badLength at refl) λ _. refuses-bind _ refuses-here λ here. refuses-bind _ numbered-word λ count.
+    refuses-bind _ (refuses-must _ Refusal.badContent here refl) λ _. refuses-bind _ (refuses-must _ Refusal.badLength at refl) λ _. refuses-bind _ (refuses-bytes _ refl) λ b. refuses-done
 
 numbered-property : (owner : ℕ) → Numbered (property owner)
 unfolding property content
@@ -61,8 +63,8 @@ numbered-property owner =
 numbered-property-turn : (owner : ℕ) (p : Properties) → Numbered (propertyTurn owner p)
 unfolding propertyTurn listed
 numbered-property-turn owner p =
-    refuses-bind _ (numbered-property owner) λ x. refuses-bind _ (refuses-must _ 16 _ refl) λ _. refuses-bind _ (refuses-must _ 7 _ refl) λ _.
-    refuses-bind _ (refuses-must _ 7 _ refl) λ _. refuses-done
+    refuses-bind _ (numbered-property owner) λ x. refuses-bind _ (refuses-must _ Refusal.floating _ refl) λ _. refuses-bind _ (refuses-must _ Refusal.badContent _ refl) λ _.
+    refuses-bind _ (refuses-must _ Refusal.badContent _ refl) λ _. refuses-done
 
 numbered-properties : (owner unmapped : ℕ) → Numbered (properties owner unmapped)
 unfolding properties
@@ -71,17 +73,17 @@ numbered-properties owner unmapped = refuses-loop (propertyTurn owner) (numbered
 numbered-header : Numbered header
 unfolding header listed
 numbered-header =
-    refuses-bind _ refuses-here λ start. refuses-bind _ (refuses-bytes 9 refl) λ m. refuses-bind _ (refuses-must _ 2 start refl) λ _.
-    refuses-bind _ refuses-here λ at. refuses-bind _ (refuses-bytes 5 refl) λ t. refuses-bind _ (refuses-must _ 3 at refl) λ _. refuses-done
+    refuses-bind _ refuses-here λ start. refuses-bind _ (refuses-bytes 9 refl) λ m. refuses-bind _ (refuses-must _ Refusal.notXcf start refl) λ _.
+    refuses-bind _ refuses-here λ at. refuses-bind _ (refuses-bytes 5 refl) λ t. refuses-bind _ (refuses-must _ Refusal.badVersion at refl) λ _. refuses-done
 
 numbered-agrees : (v : ℕ) → Numbered (agrees v)
 unfolding agrees listed
-numbered-agrees v = refuses-bind _ refuses-here λ at. refuses-bind _ numbered-word λ n. refuses-must _ 10 at refl
+numbered-agrees v = refuses-bind _ refuses-here λ at. refuses-bind _ numbered-word λ n. refuses-must _ Refusal.disagrees at refl
 
 numbered-pointer : (size : ℕ) → Numbered (pointer size)
 unfolding pointer listed
 numbered-pointer size =
-    refuses-bind _ refuses-here λ at. refuses-bind _ (numbered-number size) λ p. refuses-bind _ (refuses-must _ 9 at refl) λ _. refuses-done
+    refuses-bind _ refuses-here λ at. refuses-bind _ (numbered-number size) λ p. refuses-bind _ (refuses-must _ Refusal.noPointer at refl) λ _. refuses-done
 
 numbered-rest : (size : ℕ) → 1 ≤ size → Numbered (rest size)
 unfolding rest restTurn
@@ -92,10 +94,10 @@ numbered-rest size some =
 
 pub numbered-tiles : (size n before : ℕ) → Numbered (tiles size n before)
 unfolding tiles listed
-numbered-tiles size zero before = refuses-bind _ refuses-here λ at. refuses-bind _ (numbered-number size) λ p. refuses-must _ 13 at refl
+numbered-tiles size zero before = refuses-bind _ refuses-here λ at. refuses-bind _ (numbered-number size) λ p. refuses-must _ Refusal.badTilePointer at refl
 numbered-tiles size (suc n) before =
     refuses-bind _ refuses-here λ at. refuses-bind _ refuses-length λ end. refuses-bind _ (numbered-number size) λ p.
-    refuses-bind _ (refuses-must _ 13 at refl) λ _. numbered-tiles size n p
+    refuses-bind _ (refuses-must _ Refusal.badTilePointer at refl) λ _. numbered-tiles size n p
 
 numbered-hierarchy : (size : ℕ) → 1 ≤ size → (width height depth : ℕ) → Numbered (hierarchy size width height depth)
 unfolding hierarchy
@@ -107,16 +109,16 @@ numbered-hierarchy size some width height depth =
 
 numbered-side : Numbered side
 unfolding side listed
-numbered-side = refuses-bind _ refuses-here λ at. refuses-bind _ numbered-word λ n. refuses-bind _ (refuses-must _ 4 at refl) λ _. refuses-done
+numbered-side = refuses-bind _ refuses-here λ at. refuses-bind _ numbered-word λ n. refuses-bind _ (refuses-must _ Refusal.badSide at refl) λ _. refuses-done
 
 numbered-side-like : (v : ℕ) → Numbered (sideLike v)
 unfolding sideLike listed
-numbered-side-like v = refuses-bind _ refuses-here λ at. refuses-bind _ numbered-side λ n. refuses-must _ 10 at refl
+numbered-side-like v = refuses-bind _ refuses-here λ at. refuses-bind _ numbered-side λ n. refuses-must _ Refusal.disagrees at refl
 
 numbered-layer-type : (base : ℕ) → Numbered (layerType base)
 unfolding layerType listed
 numbered-layer-type base =
-    refuses-bind _ refuses-here λ at. refuses-bind _ numbered-word λ t. refuses-bind _ (refuses-must _ 10 at refl) λ _. refuses-done
+    refuses-bind _ refuses-here λ at. refuses-bind _ numbered-word λ t. refuses-bind _ (refuses-must _ Refusal.disagrees at refl) λ _. refuses-done
 
 numbered-fields : (size kind : ℕ) → Numbered (fields size kind)
 unfolding fields
@@ -154,14 +156,14 @@ numbered-drawables one h (p ∷ ps) rows =
 numbered-pointers : (size most : ℕ) → Numbered (pointers size most)
 unfolding pointers listed
 numbered-pointers size zero =
-    refuses-bind _ refuses-here λ at. refuses-bind _ (numbered-number size) λ p. refuses-bind _ (refuses-must _ 8 at refl) λ _. refuses-done
+    refuses-bind _ refuses-here λ at. refuses-bind _ (numbered-number size) λ p. refuses-bind _ (refuses-must _ Refusal.tooMany at refl) λ _. refuses-done
 numbered-pointers size (suc most) =
     refuses-bind _ (numbered-number size) λ p. refuses-cond (eqb p 0) refuses-done (refuses-bind _ (numbered-pointers size most) λ ps. refuses-done)
 
 numbered-base-type : (version : ℕ) → Numbered (baseType version)
 unfolding baseType listed
 numbered-base-type version =
-    refuses-bind _ refuses-here λ at. refuses-bind _ numbered-word λ base. refuses-bind _ (refuses-must _ 5 at refl) λ _. refuses-done
+    refuses-bind _ refuses-here λ at. refuses-bind _ numbered-word λ base. refuses-bind _ (refuses-must _ Refusal.badBase at refl) λ _. refuses-done
 
 numbered-head : Numbered head
 unfolding head
@@ -172,7 +174,7 @@ numbered-head =
 numbered-image : (size : ℕ) → 1 ≤ size → Numbered (image size)
 unfolding image canvasChannelRows
 numbered-image size some =
-    refuses-bind _ numbered-head λ h. refuses-bind _ (numbered-pointers size 48) λ layers. refuses-bind _ (numbered-pointers size 32) λ channels.
+    refuses-bind _ numbered-head λ h. refuses-bind _ (numbered-pointers size layerLimit) λ layers. refuses-bind _ (numbered-pointers size channelLimit) λ channels.
     refuses-bind _ (numbered-drawables _ (numbered-layer-rows size some _) layers _) λ first.
     refuses-bind _ (numbered-drawables _ (λ rows. numbered-channel-rows size some _ rows) channels first) λ all. refuses-done
 

@@ -10,6 +10,9 @@ use native.Mathlib.Omega.{arith}
 use borrow.Author.Tests.{leb-true, eqb-true}
 use lib.Dec.{leb, eqb}
 use lib.ListN.{length, getD}
+use Rattle.xcf_numbers.specs.Limit.{sideLimit}
+use Rattle.xcf_numbers.specs.PropertyType
+use Rattle.xcf_numbers.specs.Refusal
 use Rattle.xcf_property.specs.declared.Content.{Content}
 use Rattle.xcf_property.specs.declared.Properties.{Properties}
 use Rattle.xcf_walk.specs.Walk.{here, must}
@@ -28,7 +31,7 @@ use Rattle.xcf_read.specs.Image.{pointers}
 use Rattle.xcf_walk_laws.proofs.Ensures.{Ensures, ensures-always, ensures-done, ensures-must, ensures-weaken, ensures-bind, ensures-next, ensures-cond, InTurn, ensures-loop}
 
 abbrev pub Side : ℕ → Type 0
-Side n = (1 ≤ n) × (n ≤ 16384)
+Side n = (1 ≤ n) × (n ≤ sideLimit)
 
 abbrev pub Depth : ℕ → Type 0
 Depth n = (1 ≤ n) × (n ≤ 4)
@@ -55,7 +58,7 @@ depth-in-range base t e = depth-in-list depths t (omega arith) (omega (arith, le
 put-compression : (kind : ℕ) (c : Content) (p : Properties) → allowed imageList kind (c .first) ≡ true → p .compression ≤ 1
     → put imageList kind c p .compression ≤ 1
 unfolding allowed put
-put-compression kind c p e h = go (eqb kind 17) e
+put-compression kind c p e h = go (eqb kind PropertyType.compression) e
   where
     go : (t : Bool) → cond t (leb (c .first) 1) true ≡ true → cond t (c .first) (p .compression) ≤ 1
     go true e = leb-true _ 1 e
@@ -64,17 +67,17 @@ put-compression kind c p e h = go (eqb kind 17) e
 module _ {f : List ℕ} {S : ℕ → Type 0} where
   ensures-side : Ensures f S Side side
   unfolding side sideOk
-  ensures-side = ensures-next here _ λ at. ensures-next word _ λ n. ensures-bind _ (ensures-must (sideOk n) 4 at) λ _ e. ensures-done (within-bounds 1 16384 n e)
+  ensures-side = ensures-next here _ λ at. ensures-next word _ λ n. ensures-bind _ (ensures-must (sideOk n) Refusal.badSide at) λ _ e. ensures-done (within-bounds 1 sideLimit n e)
 
   ensures-side-like : (v : ℕ) → Ensures f S (λ _. Side v) (sideLike v)
   unfolding sideLike
   ensures-side-like v =
-      ensures-next here _ λ at. ensures-bind _ ensures-side λ n h. ensures-weaken (λ _ e. rw (eqb-true n v e) at h) (ensures-must (eqb n v) 10 at)
+      ensures-next here _ λ at. ensures-bind _ ensures-side λ n h. ensures-weaken (λ _ e. rw (eqb-true n v e) at h) (ensures-must (eqb n v) Refusal.disagrees at)
 
   ensures-layer-type : (base : ℕ) → Ensures f S (λ t. Depth (depthOf t)) (layerType base)
   unfolding layerType
   ensures-layer-type base =
-      ensures-next here _ λ at. ensures-next word _ λ t. ensures-bind _ (ensures-must (typeOk base t) 10 at) λ _ e. ensures-done (depth-in-range base t e)
+      ensures-next here _ λ at. ensures-next word _ λ t. ensures-bind _ (ensures-must (typeOk base t) Refusal.disagrees at) λ _ e. ensures-done (depth-in-range base t e)
 
   pub ensures-layer : (size base : ℕ) → Ensures f S LayerInRange (layer size base)
   unfolding layer
@@ -90,10 +93,10 @@ module _ {f : List ℕ} {S : ℕ → Type 0} where
   compression-turn : (p : Properties) → p .compression ≤ 1 → Ensures f S (InTurn (λ x. x .compression ≤ 1)) (propertyTurn imageList p)
   unfolding propertyTurn
   compression-turn p h =
-      ensures-next (property imageList) _ λ x. ensures-next (must _ 16 _) _ λ _. ensures-next (must _ 7 _) _ λ _.
-      ensures-bind _ (ensures-must (allowed imageList (x .kind) (x .content .first)) 7 (x .place)) λ _ e.
+      ensures-next (property imageList) _ λ x. ensures-next (must _ Refusal.floating _) _ λ _. ensures-next (must _ Refusal.badContent _) _ λ _.
+      ensures-bind _ (ensures-must (allowed imageList (x .kind) (x .content .first)) Refusal.badContent (x .place)) λ _ e.
       let kept = put-compression (x .kind) (x .content) p e h in
-      ensures-done (by-cases (InTurn _) (eqb (x .kind) 0) _ _ (λ _. kept) (λ _. kept))
+      ensures-done (by-cases (InTurn _) (eqb (x .kind) PropertyType.end) _ _ (λ _. kept) (λ _. kept))
 
   ensures-compression : (unmapped : ℕ) → Ensures f S (λ p. p .compression ≤ 1) (properties imageList unmapped)
   unfolding properties
@@ -108,7 +111,7 @@ module _ {f : List ℕ} {S : ℕ → Type 0} where
   pub ensures-pointers : (size most : ℕ) → Ensures f S (λ ps. length ps ≤ most) (pointers size most)
   unfolding pointers
   ensures-pointers size zero =
-      ensures-next here _ λ at. ensures-next (number size) _ λ p. ensures-next (must _ 8 _) _ λ _. ensures-done (omega arith)
+      ensures-next here _ λ at. ensures-next (number size) _ λ p. ensures-next (must _ Refusal.tooMany _) _ λ _. ensures-done (omega arith)
   ensures-pointers size (suc most) =
       ensures-next (number size) _ λ p.
       ensures-cond (eqb p 0) (ensures-done (omega arith)) (ensures-bind _ (ensures-pointers size most) λ ps h. ensures-done (omega arith))

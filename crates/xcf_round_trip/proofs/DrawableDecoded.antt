@@ -7,7 +7,9 @@ use mathlib.Core.List.{List}
 use mathlib.Core.Bool.{true}
 use borrow.Author.Tests.{le-leb, eq-eqb}
 use lib.ListN.{length, replicate}
-use Rattle.xcf_table.specs.Table.{tableSize, rowAt}
+use Rattle.xcf_numbers.specs.Limit.{fileLimit, tableSize}
+use Rattle.xcf_numbers.specs.Refusal
+use Rattle.xcf_table.specs.Table.{rowAt}
 use Rattle.xcf_range.proofs.Bounds.{bounds-within}
 use Rattle.xcf_store.specs.Pointer.{pointerSize}
 use Rattle.xcf_window.specs.Usable.{inRange, inFile, usableRow, fits, rowRefusal}
@@ -25,7 +27,7 @@ unfolding fits readRow
 fits-read d p pixels marks fit = fit
 
 module _ {f : List ℕ} {p : ℕ} (d : Drawable) (fine : Writable d) (kind : (1 ≤ d .row .kind) × (d .row .kind ≤ 3))
-    (small : length f ≤ 1073741824) (some : 0 < p) (s : Stands f p (drawableBytes d p)) where
+    (small : length f ≤ fileLimit) (some : 0 < p) (s : Stands f p (drawableBytes d p)) where
   in-range : inRange (readRow d p) ≡ true
   unfolding inRange readRow
   in-range =
@@ -42,12 +44,12 @@ module _ {f : List ℕ} {p : ℕ} (d : Drawable) (fine : Writable d) (kind : (1 
       let inside = tiles-inside pointerSize (d .row .count) 0 f _ (sym (walked d s fine small some .gives)) in
       rw (eq-eqb _ _ (fine .drawn .range .count), le-leb _ _ inside)
 
-  decodable : (table : ℕ) → table ≡ tableSize → drawableRefusal pointerSize f table (readRow d p) 1 true ≡ refusal 0 0
+  decodable : (table : ℕ) → table ≡ tableSize → drawableRefusal pointerSize f table (readRow d p) 1 true ≡ refusal Refusal.accepted 0
   unfolding drawableRefusal rowRefusal usableRow
   decodable table size = rw (eq-eqb _ _ size, le-leb _ _ small, in-range, in-file, walked d s fine small some .gives)
 
 pub drawable-decoded : (d : Drawable) (p : ℕ) (f table : List ℕ) (k : ℕ) (buffer marks : List ℕ)
-    → Writable d → (1 ≤ d .row .kind) × (d .row .kind ≤ 3) → length f ≤ 1073741824 → 0 < p → Stands f p (drawableBytes d p)
+    → Writable d → (1 ≤ d .row .kind) × (d .row .kind ≤ 3) → length f ≤ fileLimit → 0 < p → Stands f p (drawableBytes d p)
     → length table ≡ tableSize → rowAt table k ≡ readRow d p → fits (d .row) (length buffer) (length marks) ≡ true
     → decoding pointerSize f table k 1 buffer marks
     ≡ record { answer = record { number = 0; place = 0; marked = 0 }; pixels = d .pixels; marks = replicate (d .row .count) 0 }

@@ -10,6 +10,8 @@ use native.Mathlib.Omega.{arith}
 use borrow.Author.Tests.{ne-eqb, eq-eqb}
 use lib.Dec.{eqb}
 use lib.ListN.{length}
+use Rattle.xcf_numbers.specs.Limit.{fileLimit}
+use Rattle.xcf_numbers.specs.Kind
 use Rattle.xcf_store.specs.Pointer.{pointerSize}
 use Rattle.xcf_store.specs.Word.{part}
 use Rattle.xcf_table.specs.declared.Row.{Row}
@@ -99,7 +101,7 @@ pub record Readable (d : Drawable) : Type 0 where
   pub writable : Writable d
   pub listed : Listed (d .row)
 
-module _ {f : List ℕ} {p : ℕ} (d : Drawable) (x : Readable d) (small : length f ≤ 1073741824) (some : 0 < p)
+module _ {f : List ℕ} {p : ℕ} (d : Drawable) (x : Readable d) (small : length f ≤ fileLimit) (some : 0 < p)
     (s : Stands f p (drawableBytes d p)) where
   abbrev w : Writable d
   w = x .writable
@@ -124,7 +126,7 @@ module _ {f : List ℕ} {p : ℕ} (d : Drawable) (x : Readable d) (small : lengt
       (stands-front (hierarchyOf d p) _ (behind-structure d s)) (level-stands d s))
 
   -- a mask or channel
-  module _ (facts : ChannelFacts (d .row)) (other : d .row .kind ≡ 1 → ⊥) where
+  module _ (facts : ChannelFacts (d .row)) (other : d .row .kind ≡ Kind.layer → ⊥) where
     channel-row : channelRow (ownerOf (d .row)) (fieldsOf d (p + sidesSize (d .row)) (hierarchyAt d p)) (levelAt d p + 8)
         ≡ readRow d p
     unfolding channelRow readRow
@@ -133,7 +135,7 @@ module _ {f : List ℕ} {p : ℕ} (d : Drawable) (x : Readable d) (small : lengt
     reads-owned : (rows : Rows) → Gives (channelRows pointerSize (ownerOf (d .row)) rows) f p (addRow rows (readRow d p))
     unfolding channelRows
     reads-owned rows =
-        let isnt = ne-eqb (d .row .kind) 1 other in
+        let isnt = ne-eqb (d .row .kind) Kind.layer other in
         let structure =
         reads-channel-structure d w (x .listed) _ (omega arith) hierarchy-low (maskAt d p) (structure-stands d s) isnt in
         reads-gives
@@ -182,7 +184,7 @@ canvas-owner : (c : Canvas) (k : ℕ) (r : Row) → CanvasFacts c k r → channe
 unfolding channelOwner
 canvas-owner c k r facts = rw (facts .kind, facts .width, facts .height, facts .dx, facts .dy, facts .owner)
 
-module _ {f : List ℕ} {p : ℕ} (small : length f ≤ 1073741824) (some : 0 < p) (c : Canvas) (rows : Rows) (d : Drawable)
+module _ {f : List ℕ} {p : ℕ} (small : length f ≤ fileLimit) (some : 0 < p) (c : Canvas) (rows : Rows) (d : Drawable)
     (x : Readable d) (s : Stands f p (drawableBytes d p)) where
   pub reads-layer : LayerFacts c (rows .count) (d .row) (d .hasMask) → d .hasMask ≡ false
       → Gives (layerRows pointerSize c rows) f p (addRow rows (readRow d p))

@@ -13,14 +13,16 @@ use borrow.Author.Tests.{eqb-true, eqb-false, ne-eqb, lt-ltb, lt-leb}
 use lib.Dec.{eqb}
 use lib.ListN.{length, getD, drop, length-append}
 use lib.Seq.{drop-drop}
+use Rattle.xcf_numbers.specs.Limit.{layerLimit, channelLimit, rowSize, tableRows, tableSize}
+use Rattle.xcf_numbers.specs.Kind
 use Rattle.xcf_laws.proofs.Cases.{below-or, by-cases}
 use Rattle.xcf_store.specs.Word.{part}
 use Rattle.xcf_store.proofs.Parts.{part-length}
 use Rattle.xcf_table.specs.declared.Row.{Row}
-use Rattle.xcf_table.specs.Table.{rowSize, tableSize, rowAt}
+use Rattle.xcf_table.specs.Table.{rowAt}
 use Rattle.xcf_table.proofs.Rows.{row-there}
 use Rattle.xcf_table.specs.declared.canvas.Canvas.{Canvas}
-use Rattle.xcf_usable.specs.Usable.{tableRows, isUnused, before, masked, usable}
+use Rattle.xcf_usable.specs.Usable.{isUnused, before, masked, usable}
 use Rattle.xcf_usable.proofs.AllUsable.{all-usable}
 use Rattle.xcf_usable.proofs.RowFacts.{LayerFacts, ChannelFacts, MaskFacts, CanvasFacts, kind-listed, layer-facts, channel-facts, canvas-facts}
 use Rattle.xcf_usable.proofs.Counts.{before-next}
@@ -67,11 +69,11 @@ module _ (table names : List ℕ) (other : Drawable) where
 
 -- the row behind the used ones has no kind, a row that has one is in the table, and a used row's pixels are among those of all
 module _ (table : List ℕ) where
-  used-ends : (n k : ℕ) → usedFrom table n k < n → rowAt table (k + usedFrom table n k) .kind ≡ 0
+  used-ends : (n k : ℕ) → usedFrom table n k < n → rowAt table (k + usedFrom table n k) .kind ≡ Kind.unused
   unfolding usedFrom
   used-ends zero k = λ h. absurd (omega arith)
   used-ends (suc n) k =
-      by-cases (λ m. m < suc n → rowAt table (k + m) .kind ≡ 0) (isUnused (rowAt table k)) 0 (suc (usedFrom table n (k + 1)))
+      by-cases (λ m. m < suc n → rowAt table (k + m) .kind ≡ Kind.unused) (isUnused (rowAt table k)) 0 (suc (usedFrom table n (k + 1)))
       (λ e _. rw add-zero (eqb-true _ _ e))
       (λ _ h.
       let next : k + suc (usedFrom table n (k + 1)) ≡ k + 1 + usedFrom table n (k + 1) = omega arith in
@@ -86,14 +88,14 @@ module _ (table : List ℕ) where
       rw next (omega (arith, pixels-within n (k + 1) i (omega arith)))
 
   module _ (size : length table ≡ tableSize) where
-    row-behind : (k : ℕ) → tableRows ≤ k → rowAt table k .kind ≡ 0
+    row-behind : (k : ℕ) → tableRows ≤ k → rowAt table k .kind ≡ Kind.unused
     unfolding rowAt
     row-behind k h = rw (lt-leb (rowSize * (k + 1)) (length table) (omega arith))
 
-    row-inside : (k : ℕ) → (rowAt table k .kind ≡ 0 → ⊥) → k < tableRows
+    row-inside : (k : ℕ) → (rowAt table k .kind ≡ Kind.unused → ⊥) → k < tableRows
     row-inside k h = ⊎-elim (λ below. below) (λ above. absurd (h (row-behind k above))) (below-or k tableRows)
 
-    pub used-end : rowAt table (usedRows table) .kind ≡ 0
+    pub used-end : rowAt table (usedRows table) .kind ≡ Kind.unused
     used-end = ⊎-elim (λ below. rw zero-add at (used-ends tableRows 0 below)) (row-behind _) (below-or (usedRows table) tableRows)
 
 -- drawables that are all readable: the first is, and the rest are
@@ -121,7 +123,7 @@ pub data Ordered (c : Canvas) : ℕ → List Drawable → Type 0 where
       → MaskFacts (k + 1) (d .row) (m .row) → ChannelFacts (m .row) → Ordered c (k + 1 + 1) ds → Ordered c k (d ∷ m ∷ ds)
 
 -- a row has a mask where the next row is one
-masked-is : (table : List ℕ) (k : ℕ) → k < tableRows → masked table k ≡ eqb (rowAt table (k + 1) .kind) 2
+masked-is : (table : List ℕ) (k : ℕ) → k < tableRows → masked table k ≡ eqb (rowAt table (k + 1) .kind) Kind.mask
 unfolding masked
 masked-is table k h = rw (lt-ltb _ _ h)
 
@@ -196,8 +198,8 @@ module _ (c : Canvas) (table names pixels : List ℕ) (low : (i : ℕ) → getD 
   }
 
   pub places-few : (p : ℕ)
-      → (length (placesOf 1 (usedDrawables table names pixels) p) ≤ 48)
-      × (length (placesOf 3 (usedDrawables table names pixels) p) ≤ 32)
+      → (length (placesOf Kind.layer (usedDrawables table names pixels) p) ≤ layerLimit)
+      × (length (placesOf Kind.channel (usedDrawables table names pixels) p) ≤ channelLimit)
   places-few p = (
     rw (places-counted table names 1 (usedRows table) p pixels) (few-layers c (length names) table all _ (used-most table)),
     rw (places-counted table names 3 (usedRows table) p pixels) (few-channels c (length names) table all _ (used-most table)),

@@ -6,6 +6,8 @@ use mathlib.Core.Path.{_≡_, sym, ap, subst}
 use mathlib.Core.List.{List}
 use mathlib.Core.Logic.{⊎-elim}
 use native.Mathlib.Omega.{arith}
+use Rattle.xcf_numbers.specs.Limit.{tableRows}
+use Rattle.xcf_numbers.specs.Kind
 use Rattle.xcf_walk.specs.Walk.{got, run}
 use Rattle.xcf_laws.proofs.Cases.{below-or}
 use Rattle.xcf_table.specs.declared.Row.{Row}
@@ -16,7 +18,7 @@ use Rattle.xcf_read.specs.Answer.{Reading, readingOf, reading}
 use Rattle.xcf_table.proofs.Tables.{table-row, table-unused}
 use Rattle.xcf_read_laws.proofs.Accepted.{accepted-sized, read-walked, accepted-exactly}
 use Rattle.xcf_read_laws.proofs.AcceptedRows.{accepted-rows}
-use Rattle.xcf_usable.specs.Usable.{tableRows, badRow}
+use Rattle.xcf_usable.specs.Usable.{badRow}
 use Rattle.xcf_round_trip.specs.Taken.{RowExcepted, RowsExcepted, GivenIsTaken}
 use Rattle.xcf_round_trip.proofs.RowGiven.{Like}
 use Rattle.xcf_round_trip.proofs.RowTaken.{unused-taken}
@@ -27,7 +29,7 @@ use Rattle.xcf_round_trip.proofs.NoneBad.{none-bad}
 module _ (file table : List ℕ) (names : ℕ) (x : Image) (q : ℕ) (walked : got x q ≡ run (image pointerSize) file 0)
     (same : (k : ℕ) → k < tableRows → Like (rowAt table k) (rowAt (tableOf (x .rows)) k))
     (excepted : (k : ℕ) → k < tableRows → RowExcepted names (rowAt table k))
-    (unnamed : (k : ℕ) → k < tableRows → rowAt table k .kind ≡ 0 → rowAt table k .name ≡ 0) (once : RowsExcepted table) where
+    (unnamed : (k : ℕ) → k < tableRows → rowAt table k .kind ≡ Kind.unused → rowAt table k .name ≡ 0) (once : RowsExcepted table) where
   shown : Shown table (x .rows)
   shown =
       let i = accepted-rows pointerSize file walked in

@@ -8,6 +8,8 @@ use native.Mathlib.Omega.{arith}
 use borrow.Author.Tests.{lt-ltb, eq-eqb, ne-eqb}
 use lib.Dec.{eqb}
 use lib.ListN.{length}
+use Rattle.xcf_numbers.specs.Limit.{fileLimit, sideLimit, depthLimit}
+use Rattle.xcf_numbers.specs.Refusal
 use Rattle.xcf_store.specs.Pointer.{pointerSize}
 use Rattle.xcf_walk.specs.Walk.{turns, loop}
 use Rattle.xcf_walk.specs.Fields.{word}
@@ -24,12 +26,12 @@ use Rattle.xcf_round_trip.proofs.WordsRead.{words-rest, reads-number}
 module _ {f : List ℕ} {p : ℕ} (n : ℕ) (ns : List ℕ) (low : n < 4294967296) (s : Stands f p (words (n ∷ ns))) where
   pub reads-agrees : Reads (agrees n) f p tt (p + 4)
   unfolding agrees word
-  reads-agrees = then-here _ (then _ (reads-number n ns s low) (reads-must (eqb n n) 10 p (eq-eqb n n refl)))
+  reads-agrees = then-here _ (then _ (reads-number n ns s low) (reads-must (eqb n n) Refusal.disagrees p (eq-eqb n n refl)))
 
   pub reads-pointer : 0 < n → Reads (pointer pointerSize) f p n (p + 4)
   unfolding pointer
   reads-pointer some =
-      then-here _ (then _ (reads-number n ns s low) (then _ (reads-must _ 9 p (rw (ne-eqb n 0 (λ e. omega arith)))) ends))
+      then-here _ (then _ (reads-number n ns s low) (then _ (reads-must _ Refusal.noPointer p (rw (ne-eqb n 0 (λ e. omega arith)))) ends))
 
 -- a 0 where further pointers could stand
 reads-rest : {f : List ℕ} {p : ℕ} → Stands f p (words (0 ∷ [])) → Reads (rest pointerSize) f p tt (p + 4)
@@ -37,21 +39,21 @@ unfolding rest loop turns restTurn
 reads-rest s = then-length _ (then _ (then _ (reads-number 0 [] s (omega arith)) ends) ends)
 
 -- tile pointers that rise
-pub reads-tiles : {f : List ℕ} {p : ℕ} (before : ℕ) (ps : List ℕ) → length f ≤ 1073741824 → Rises before ps (length f)
+pub reads-tiles : {f : List ℕ} {p : ℕ} (before : ℕ) (ps : List ℕ) → length f ≤ fileLimit → Rises before ps (length f)
     → Stands f p (words (ps ++ (0 ∷ []))) → Gives (tiles pointerSize (length ps) before) f p tt
 unfolding tiles Rises
 reads-tiles before [] small rise s =
-    reads-gives (then-here _ (then _ (reads-number 0 [] s (omega arith)) (reads-must _ 13 _ refl)))
+    reads-gives (then-here _ (then _ (reads-number 0 [] s (omega arith)) (reads-must _ Refusal.badTilePointer _ refl)))
 reads-tiles {f} {p} before (q ∷ ps) small rise s =
     let low : q < 4294967296 = omega (arith, rise .1 .0) in
     let next = reads-tiles q ps small (rise .1 .1) (words-rest q (ps ++ (0 ∷ [])) s) in
     reads-gives
     (then-here _ (then-length _ (then _ (reads-number q (ps ++ (0 ∷ [])) s low)
-    (then _ (reads-must _ 13 p (rw (lt-ltb before q (rise .0), lt-ltb q (length f) (rise .1 .0)))) (gives-reads next)))))
+    (then _ (reads-must _ Refusal.badTilePointer p (rw (lt-ltb before q (rise .0), lt-ltb q (length f) (rise .1 .0)))) (gives-reads next)))))
 
 -- a hierarchy at p and its level
-pub reads-hierarchy : {f : List ℕ} {p : ℕ} (r : Row) (level : ℕ) (ps : List ℕ) → length f ≤ 1073741824
-    → r .width ≤ 16384 → r .height ≤ 16384 → r .depth ≤ 4 → length ps ≡ tileCount (r .width) (r .height) → Rises 0 ps (length f)
+pub reads-hierarchy : {f : List ℕ} {p : ℕ} (r : Row) (level : ℕ) (ps : List ℕ) → length f ≤ fileLimit
+    → r .width ≤ sideLimit → r .height ≤ sideLimit → r .depth ≤ depthLimit → length ps ≡ tileCount (r .width) (r .height) → Rises 0 ps (length f)
     → 0 < level → level ≤ length f → Stands f p (hierarchyBytes r level) → Stands f level (levelBytes r ps)
     → Gives (hierarchy 4 (r .width) (r .height) (r .depth)) f p (level + 8)
 unfolding hierarchy hierarchyBytes levelBytes

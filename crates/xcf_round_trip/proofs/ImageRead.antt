@@ -12,6 +12,9 @@ use borrow.Author.Tests.{le-leb, ne-eqb}
 use lib.Dec.{ltb}
 use lib.ListN.{length, getD}
 use lib.Seq.{take-length}
+use Rattle.xcf_numbers.specs.Limit.{fileLimit, sideLimit, layerLimit, channelLimit}
+use Rattle.xcf_numbers.specs.Kind
+use Rattle.xcf_numbers.specs.Refusal
 use Rattle.xcf_store.specs.Pointer.{pointerSize}
 use Rattle.xcf_walk.specs.Fields.{word}
 use Rattle.xcf_table.specs.Table.{noRows}
@@ -63,14 +66,14 @@ unfolding same header
 reads-header v w s t =
     let known = tag-known v w in
     let tag = rw (tag-length v w) at (reads-bytes (getD tags v []) t) in
-    then-here _ (then _ (reads-bytes magic s) (then _ (reads-must _ 2 0 refl)
-    (then-here _ (then _ tag (then _ (reads-must _ 3 9 (rw (known .0, known .1))) (ends-as (known .0)))))))
+    then-here _ (then _ (reads-bytes magic s) (then _ (reads-must _ Refusal.notXcf 0 refl)
+    (then-here _ (then _ tag (then _ (reads-must _ Refusal.badVersion 9 (rw (known .0, known .1))) (ends-as (known .0)))))))
 
 reads-base : {f : List ℕ} {p : ℕ} (v base : ℕ) → Known v → base ≤ 1 → Stands f p (words (base ∷ []))
     → Reads (baseType v) f p base (p + 4)
 unfolding word baseType
 reads-base v base w h s =
-    then-here _ (then _ (reads-number base [] s (omega arith)) (then _ (reads-must _ 5 _ (base-ok v base w h)) ends))
+    then-here _ (then _ (reads-number base [] s (omega arith)) (then _ (reads-must _ Refusal.badBase _ (base-ok v base w h)) ends))
 
 -- an image's head
 abbrev pub headOf : Canvas → ℕ → Head
@@ -107,8 +110,8 @@ module _ {f : List ℕ} (c : Canvas) (v : ℕ) (layers channels : List ℕ) (w :
       let sides = stands-front (sidesBytes c) _ behind-tag in
       let lower = words-rest _ _ sides in
       then _ (reads-header v w magic-stands (stands-front _ _ behind-magic))
-      (then _ (reads-side _ _ (within-bounds 1 16384 (c .width) wide) sides)
-      (then _ (reads-side _ _ (within-bounds 1 16384 (c .height) high) lower)
+      (then _ (reads-side _ _ (within-bounds 1 sideLimit (c .width) wide) sides)
+      (then _ (reads-side _ _ (within-bounds 1 sideLimit (c .height) high) lower)
       (then _ (reads-base v (c .base) w base (words-rest _ _ lower))
       (rw (ne-eqb (c .base) 2 (λ z. absurd (omega arith)))
       (then _ (reads-image-properties (stands-front _ _ behind-sides)) ends)))))
@@ -164,14 +167,14 @@ module _ (c : Canvas) (table names pixels : List ℕ) where
       (drawable-stands ds start d k drawables-stand (rw rows-length h))
 
   pub image-read : ((i : ℕ) → getD table i 0 < 4294967296) → InputAccepted c table (length names) (length pixels)
-      → length file ≤ 1073741824
+      → length file ≤ fileLimit
       → Gives (image pointerSize) file 0 (record { head = headOf c version; rows = addAll noRows ds start })
   unfolding image canvasOf
   image-read low a small =
       let known = version-old-or-new (rowsOf ds) in
-      let layers = placesOf 1 ds start in
+      let layers = placesOf Kind.layer ds start in
       let few = places-few c table names pixels low a start in
-      let behind = behind-list c version layers (placesOf 3 ds start) known image-stands in
+      let behind = behind-list c version layers (placesOf Kind.channel ds start) known image-stands in
       let rise : (kind : ℕ) → Rises 0 (placesOf kind ds start) (length file) =
       λ kind. places-rise kind ds 0 start (length file) image-some (drawables-stand .inside) in
       let order = drawables-ordered c table names pixels low a in
@@ -180,6 +183,6 @@ module _ (c : Canvas) (table names pixels : List ℕ) where
       let first = rows .first .at _ in
       reads-gives
       (then _ (reads-head c version layers _ known image-stands (a .wide) (a .high) (a .base))
-      (then _ (reads-pointers 48 0 (length file) layers (omega arith) (rise 1) (few .0) (stands-front _ _ behind))
-      (then _ (reads-pointers 32 0 (length file) _ (omega arith) (rise 3) (few .1) (stands-behind (closed layers) _ behind))
+      (then _ (reads-pointers layerLimit 0 (length file) layers (omega arith) (rise 1) (few .0) (stands-front _ _ behind))
+      (then _ (reads-pointers channelLimit 0 (length file) _ (omega arith) (rise 3) (few .1) (stands-behind (closed layers) _ behind))
       (then _ (gives-reads first) (then _ (gives-reads (rows .last .at (first .end))) ends)))))

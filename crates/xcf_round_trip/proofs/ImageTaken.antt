@@ -9,6 +9,7 @@ use native.Mathlib.Omega.{arith}
 use borrow.Author.Tests.{eqb-true}
 use lib.Dec.{eqb}
 use lib.ListN.{length}
+use Rattle.xcf_numbers.specs.Limit.{layerLimit, channelLimit, tableRows}
 use Rattle.xcf_walk.specs.Walk.{Walk, jump}
 use Rattle.xcf_walk_laws.proofs.Ensures.{Ensures, ensures-done, ensures-bind, ensures-next}
 use Rattle.xcf_table.specs.Table.{rowAt, Rows, noRows, addRow}
@@ -22,7 +23,7 @@ use Rattle.xcf_read.specs.Drawable.{channelRows, maskRows, layerRows, canvasCha
 use Rattle.xcf_parse.specs.Image.{head}
 use Rattle.xcf_read.specs.Image.{drawables, Image, canvasOf, image}
 use Rattle.xcf_read_laws.proofs.Ranges.{ensures-pointers}
-use Rattle.xcf_usable.specs.Usable.{tableRows, usable}
+use Rattle.xcf_usable.specs.Usable.{usable}
 use Rattle.xcf_round_trip.specs.Taken.{RowExcepted, RowsExcepted}
 use Rattle.xcf_round_trip.proofs.StructureGiven.{LayerGiven, layer-given, channel-given}
 use Rattle.xcf_round_trip.proofs.RowTaken.{taken-none}
@@ -50,7 +51,7 @@ ImageTaken names table x = Shown table (x .rows) → (k : ℕ) → k < x .rows .
 module _ (size : ℕ) (names : ℕ) (table : List ℕ) (excepted : (k : ℕ) → k < tableRows → RowExcepted names (rowAt table k))
     (once : RowsExcepted table) {f : List ℕ} {S : ℕ → Type 0} where
   module _ (c : Canvas) where
-    channel-rows : (l m : ℕ) (rows : Rows) → m < 32 → RowsTaken c names table l m rows
+    channel-rows : (l m : ℕ) (rows : Rows) → m < channelLimit → RowsTaken c names table l m rows
         → Ensures f S (RowsTaken c names table l (m + 1)) (canvasChannelRows size c rows)
     unfolding canvasChannelRows channelRows channelOwner
     channel-rows l m rows few t =
@@ -59,7 +60,7 @@ module _ (size : ℕ) (names : ℕ) (table : List ℕ) (excepted : (k : ℕ) →
         ensures-next (hierarchy size (o .width) (o .height) 1) _ λ tiles.
         ensures-done (add-channel c names table excepted once rows y tiles few given t)
 
-    mask-rows : (l : ℕ) (rows : Rows) (x : Layer) (others : ℕ) → l < 48 → LayerGiven (c .base) x → RowsTaken c names table l 0 rows
+    mask-rows : (l : ℕ) (rows : Rows) (x : Layer) (others : ℕ) → l < layerLimit → LayerGiven (c .base) x → RowsTaken c names table l 0 rows
         → Ensures f S (RowsTaken c names table (l + 1) 0)
         (maskRows size x (rows .count) (addRow rows (layerRow x others (rows .count))))
     unfolding maskRows channelRows maskOwner
@@ -71,7 +72,7 @@ module _ (size : ℕ) (names : ℕ) (table : List ℕ) (excepted : (k : ℕ) →
         ensures-next (hierarchy size (o .width) (o .height) 1) _ λ tiles.
         ensures-done (add-layer-mask c names table excepted once rows x y tiles others few given below t))
 
-    layer-rows : (l : ℕ) (rows : Rows) → l < 48 → RowsTaken c names table l 0 rows
+    layer-rows : (l : ℕ) (rows : Rows) → l < layerLimit → RowsTaken c names table l 0 rows
         → Ensures f S (RowsTaken c names table (l + 1) 0) (layerRows size c rows)
     unfolding layerRows
     layer-rows l rows few t =
@@ -81,11 +82,11 @@ module _ (size : ℕ) (names : ℕ) (table : List ℕ) (excepted : (k : ℕ) →
   pub ensures-taken : Ensures f S (ImageTaken names table) (image size)
   unfolding image
   ensures-taken =
-      ensures-next head _ λ h. ensures-bind _ (ensures-pointers size 48) λ layers few.
-      ensures-bind _ (ensures-pointers size 32) λ channels less.
+      ensures-next head _ λ h. ensures-bind _ (ensures-pointers size layerLimit) λ layers few.
+      ensures-bind _ (ensures-pointers size channelLimit) λ channels less.
       let c = canvasOf h in
-      ensures-bind _ (ensures-drawables (λ l. RowsTaken c names table l 0) _ 48 (layer-rows c) layers 0 (omega arith) (none-taken c names table))
+      ensures-bind _ (ensures-drawables (λ l. RowsTaken c names table l 0) _ layerLimit (layer-rows c) layers 0 (omega arith) (none-taken c names table))
       λ first x.
-      ensures-bind _ (ensures-drawables (RowsTaken c names table (x .0)) _ 32 (channel-rows c (x .0)) channels 0 (omega arith) (x .1))
+      ensures-bind _ (ensures-drawables (RowsTaken c names table (x .0)) _ channelLimit (channel-rows c (x .0)) channels 0 (omega arith) (x .1))
       λ all y.
       ensures-done (λ s. y .1 .taken s .rows)

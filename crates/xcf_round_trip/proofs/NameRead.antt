@@ -7,6 +7,7 @@ use native.Mathlib.Omega.{arith}
 use borrow.Author.Tests.{ne-eqb}
 use lib.ListN.{length, getD, length-append}
 use lib.Seq.{getD-append-seam}
+use Rattle.xcf_numbers.specs.Refusal
 use Rattle.xcf_store.specs.Word.{part, wordBytes}
 use Rattle.xcf_walk.specs.Fields.{word, string}
 use Rattle.xcf_structure.specs.Structure.{nameBytes}
@@ -25,7 +26,7 @@ reads-string {f} {p} bs small zero s =
     rw (← end)
     (then-here _ (then _ (reads-word (length bs) small (stands-front (wordBytes (length bs)) bs s))
     (then-here _ (then _ (reads-bytes bs (stands-behind (wordBytes (length bs)) bs s))
-    (then _ (reads-must _ 12 p (rw zero)) ends)))))
+    (then _ (reads-must _ Refusal.unendedString p (rw zero)) ends)))))
 
 -- a name that is not empty: its length is counted with the zero behind it
 name-bytes : (b : ℕ) (bs : List ℕ) → nameBytes (b ∷ bs) ≡ wordBytes (length (b ∷ bs ++ (0 ∷ []))) ++ (b ∷ bs ++ (0 ∷ []))

@@ -8,9 +8,10 @@ use mathlib.Core.Bool.{Bool, true, false}
 use native.Mathlib.Nat.{add-zero, add-suc}
 use native.Mathlib.Omega.{arith}
 use borrow.Author.Tests.{eq-eqb}
+use Rattle.xcf_numbers.specs.Limit.{tableRows}
 use Rattle.xcf_table.specs.declared.Row.{Row}
 use Rattle.xcf_table.specs.Table.{rowAt}
-use Rattle.xcf_usable.specs.Usable.{tableRows, isActiveLayer, isActiveChannel, isSelection, before, seenAt, noSecond}
+use Rattle.xcf_usable.specs.Usable.{isActiveLayer, isActiveChannel, isSelection, before, seenAt, noSecond}
 use Rattle.xcf_usable.proofs.Counts.{before-next}
 use Rattle.xcf_round_trip.specs.Taken.{RowsExcepted}
 use Rattle.xcf_round_trip.proofs.UseTaken.{NoSeconds}

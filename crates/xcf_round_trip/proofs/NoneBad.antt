@@ -6,8 +6,9 @@ use mathlib.Core.List.{List}
 use mathlib.Core.Bool.{true}
 use native.Mathlib.Nat.{add-zero, zero-add}
 use native.Mathlib.Omega.{arith}
+use Rattle.xcf_numbers.specs.Limit.{tableRows}
 use Rattle.xcf_table.specs.declared.canvas.Canvas.{Canvas}
-use Rattle.xcf_usable.specs.Usable.{tableRows, usable, badFrom, badRow}
+use Rattle.xcf_usable.specs.Usable.{usable, badFrom, badRow}
 
 module _ (c : Canvas) (names : ℕ) (table : List ℕ) (all : (k : ℕ) → k < tableRows → usable c names table k ≡ true) where
   none-from : (n k : ℕ) → k + n ≡ tableRows → badFrom c names table n k ≡ tableRows

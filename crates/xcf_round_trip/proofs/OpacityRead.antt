@@ -7,6 +7,9 @@ use mathlib.Core.Bool.{Bool, true, false, cond}
 use native.Mathlib.Omega.{arith}
 use borrow.Author.Tests.{leb-true}
 use lib.Dec.{leb, eqb}
+use Rattle.xcf_numbers.specs.Limit.{fullOpacity}
+use Rattle.xcf_numbers.specs.PropertyType
+use Rattle.xcf_numbers.specs.Refusal
 use Rattle.xcf_property.specs.declared.Content.{Content}
 use Rattle.xcf_property.specs.declared.Properties.{Properties}
 use Rattle.xcf_walk.specs.Walk.{must}
@@ -16,24 +19,24 @@ use Rattle.xcf_walk_laws.proofs.Ensures.{Ensures, ensures-done, ensures-must, e
 use Rattle.xcf_laws.proofs.Cases.{by-cases}
 
 module _ (list : ℕ) (drawn : eqb list imageList ≡ false) where
-  put-opacity : (kind : ℕ) (c : Content) (p : Properties) → allowed list kind (c .first) ≡ true → p .opacity ≤ 255
-      → put list kind c p .opacity ≤ 255
+  put-opacity : (kind : ℕ) (c : Content) (p : Properties) → allowed list kind (c .first) ≡ true → p .opacity ≤ fullOpacity
+      → put list kind c p .opacity ≤ fullOpacity
   unfolding allowed put
-  put-opacity kind c p e h = go (eqb kind 6) _ (rw drawn at e)
+  put-opacity kind c p e h = go (eqb kind PropertyType.opacity) _ (rw drawn at e)
     where
-      go : (t other : Bool) → cond t (leb (c .first) 255) other ≡ true → cond t (c .first) (p .opacity) ≤ 255
-      go true other e = leb-true _ 255 e
+      go : (t other : Bool) → cond t (leb (c .first) fullOpacity) other ≡ true → cond t (c .first) (p .opacity) ≤ fullOpacity
+      go true other e = leb-true _ fullOpacity e
       go false other e = h
 
   module _ {f : List ℕ} {S : ℕ → Type 0} where
-    opacity-turn : (p : Properties) → p .opacity ≤ 255 → Ensures f S (InTurn (λ x. x .opacity ≤ 255)) (propertyTurn list p)
+    opacity-turn : (p : Properties) → p .opacity ≤ fullOpacity → Ensures f S (InTurn (λ x. x .opacity ≤ fullOpacity)) (propertyTurn list p)
     unfolding propertyTurn
     opacity-turn p h =
-        ensures-next (property list) _ λ x. ensures-next (must _ 16 _) _ λ _. ensures-next (must _ 7 _) _ λ _.
-        ensures-bind _ (ensures-must (allowed list (x .kind) (x .content .first)) 7 (x .place)) λ _ e.
+        ensures-next (property list) _ λ x. ensures-next (must _ Refusal.floating _) _ λ _. ensures-next (must _ Refusal.badContent _) _ λ _.
+        ensures-bind _ (ensures-must (allowed list (x .kind) (x .content .first)) Refusal.badContent (x .place)) λ _ e.
         let kept = put-opacity (x .kind) (x .content) p e h in
-        ensures-done (by-cases (InTurn _) (eqb (x .kind) 0) _ _ (λ _. kept) (λ _. kept))
+        ensures-done (by-cases (InTurn _) (eqb (x .kind) PropertyType.end) _ _ (λ _. kept) (λ _. kept))
 
-    pub ensures-opacity : (unmapped : ℕ) → Ensures f S (λ p. p .opacity ≤ 255) (properties list unmapped)
+    pub ensures-opacity : (unmapped : ℕ) → Ensures f S (λ p. p .opacity ≤ fullOpacity) (properties list unmapped)
     unfolding properties
     ensures-opacity unmapped = ensures-loop (propertyTurn list) opacity-turn _ (omega arith)

@@ -7,8 +7,9 @@ use mathlib.Core.List.{List}
 use native.Mathlib.Nat.{zero-add, mul-comm}
 use native.Mathlib.Omega.{arith}
 use lib.ListN.{getD}
+use Rattle.xcf_numbers.specs.Limit.{tileSide}
 use Rattle.xcf_table.specs.declared.Row.{Row}
-use Rattle.xcf_grid.specs.Grid.{tileSide, sideOf, tileCount}
+use Rattle.xcf_grid.specs.Grid.{sideOf, tileCount}
 use Rattle.xcf_grid.specs.Pixels.{tileAt, pixelIn, byteOf, pixelsOf, placeOf, shown}
 use Rattle.xcf_grid.proofs.Grid.{tile-column, tile-line}
 use Rattle.xcf_grid.proofs.Places.{place-row, place-column}

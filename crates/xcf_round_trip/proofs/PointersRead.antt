@@ -9,6 +9,7 @@ use native.Mathlib.Omega.{arith}
 use borrow.Author.Tests.{ne-eqb}
 use lib.Dec.{eqb}
 use lib.ListN.{length, length-append}
+use Rattle.xcf_numbers.specs.Refusal
 use Rattle.xcf_store.specs.Pointer.{pointerSize}
 use Rattle.xcf_read.specs.Image.{pointers}
 use Rattle.xcf_store.specs.Word.{wordBytes, words, when}
@@ -28,7 +29,7 @@ pub reads-pointers : {f : List ℕ} {p : ℕ} (most before end : ℕ) (ps : List
     → length ps ≤ most → Stands f p (closed ps) → Reads (pointers pointerSize most) f p ps (p + length (closed ps))
 unfolding pointers flatMap wordBytes Rises
 reads-pointers zero before end [] low rise few s =
-    then-here _ (then _ (reads-number 0 [] s (omega arith)) (then _ (reads-must _ 8 _ refl) ends))
+    then-here _ (then _ (reads-number 0 [] s (omega arith)) (then _ (reads-must _ Refusal.tooMany _ refl) ends))
 reads-pointers zero before end (q ∷ ps) low rise few s = absurd (omega arith)
 reads-pointers (suc most) before end [] low rise few s = then _ (reads-number 0 [] s (omega arith)) ends
 reads-pointers {f} {p} (suc most) before end (q ∷ ps) low rise few s =

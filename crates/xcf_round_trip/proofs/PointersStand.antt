@@ -6,6 +6,7 @@ use mathlib.Core.Path.{_≡_, _∙_}
 use mathlib.Core.List.{List, [], _∷_, _++_}
 use native.Mathlib.Omega.{arith}
 use lib.ListN.{length}
+use Rattle.xcf_numbers.specs.Limit.{fileLimit}
 use Rattle.xcf_parse.specs.Hierarchy.{tiles}
 use Rattle.xcf_store.specs.Pointer.{pointerSize}
 use Rattle.xcf_window.specs.Window.{pointerAt}
@@ -36,7 +37,7 @@ module _ {f : List ℕ} {p : ℕ} (d : Drawable) (s : Stands f p (drawableBytes 
       let e : levelAt d p + 4 + 4 ≡ levelAt d p + 8 = omega arith in
       rw e at (words-rest (d .row .height) ps (words-rest (d .row .width) (d .row .height ∷ ps) (level-stands d s)))
 
-  module _ (fine : Writable d) (small : length f ≤ 1073741824) (some : 0 < p) where
+  module _ (fine : Writable d) (small : length f ≤ fileLimit) (some : 0 < p) where
     starts-rise : Rises 0 (startsOf d p) (length f)
     starts-rise = tiles-rise d (tilesAt d p) (length f) fine (omega arith) (tiles-stand d s .inside)
 

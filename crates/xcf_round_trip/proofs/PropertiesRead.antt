@@ -9,6 +9,8 @@ use native.Mathlib.Omega.{arith}
 use borrow.Author.Tests.{eqb-true, eqb-false, le-leb}
 use lib.Dec.{eqb}
 use lib.ListN.{length}
+use Rattle.xcf_numbers.specs.Limit.{fullOpacity}
+use Rattle.xcf_numbers.specs.PropertyType
 use Rattle.xcf_property.specs.declared.Content.{Content}
 use Rattle.xcf_property.specs.declared.Properties.{Properties}
 use Rattle.xcf_store.specs.Word.{wordOf, wordBytes, words, when}
@@ -41,7 +43,7 @@ content-words m n small low = rw (word-value m small, word-value n low)
 -- a content of at most 1 is allowed in every entry
 allowed-low : (list kind n : ℕ) → n ≤ 1 → allowed list kind n ≡ true
 unfolding allowed
-allowed-low list kind n low = simp (le-leb n 1 low, le-leb n 255 (omega arith), cond-same)
+allowed-low list kind n low = simp (le-leb n 1 low, le-leb n fullOpacity (omega arith), cond-same)
 
 module _ (list kind : ℕ) (plain : Plain kind) where
   -- an entry of at most two words, by its content
@@ -131,7 +133,7 @@ ruleset put-entries = (
 
 -- a row whose list of properties can be read
 pub record Listed (r : Row) : Type 0 where
-  pub opaque : r .opacity ≤ 255
+  pub opaque : r .opacity ≤ fullOpacity
   pub mode : r .mode < 4294967296
   pub dx : r .dx < 4294967296
   pub dy : r .dy < 4294967296
@@ -140,19 +142,19 @@ module _ (r : Row) (hasMask : Bool) (l : Listed r) where
   opacity-small : r .opacity < 4294967296
   opacity-small = omega (arith, l .opaque)
 
-  opacity-taken : Taken (r .kind) (worded 6 (r .opacity ∷ []))
+  opacity-taken : Taken (r .kind) (worded PropertyType.opacity (r .opacity ∷ []))
   unfolding lengthOk allowed
   opacity-taken =
       entry (r .kind) 6 (omega arith) (r .opacity ∷ []) (omega arith) refl (content-word (r .opacity) opacity-small)
       (rw (le-leb _ _ (l .opaque), cond-same))
 
-  mode-taken : Taken (r .kind) (worded 7 (r .mode ∷ []))
+  mode-taken : Taken (r .kind) (worded PropertyType.mode (r .mode ∷ []))
   unfolding lengthOk allowed
   mode-taken =
       entry (r .kind) 7 (omega arith) (r .mode ∷ []) (omega arith) refl (content-word (r .mode) (l .mode))
       (simp (and-false, cond-same))
 
-  offsets-taken : Taken (r .kind) (worded 15 (r .dx ∷ r .dy ∷ []))
+  offsets-taken : Taken (r .kind) (worded PropertyType.offsets (r .dx ∷ r .dy ∷ []))
   unfolding lengthOk allowed
   offsets-taken =
       entry (r .kind) 15 (omega arith) (r .dx ∷ r .dy ∷ []) (omega arith) refl (content-words (r .dx) (r .dy) (l .dx) (l .dy))
@@ -161,12 +163,12 @@ module _ (r : Row) (hasMask : Bool) (l : Listed r) where
   drawable-taken : AllTaken (r .kind) (drawableProperties r hasMask)
   unfolding drawableProperties lengthOk
   drawable-taken =
-      when-taken (eqb (selection r) 1) (worded 4 [] ∷ []) (goes refl (bare (r .kind) 4 (omega arith) refl))
+      when-taken (eqb (selection r) 1) (worded PropertyType.selection [] ∷ []) (goes refl (bare (r .kind) 4 (omega arith) refl))
       (when-taken (eqb (active r) 1) (worded (activeType (r .kind)) [] ∷ []) (active-taken (r .kind))
       (goes refl opacity-taken
       (goes refl (flag (r .kind) 8 (omega arith) (r .flags) refl)
-      (when-taken hasMask (worded 11 (apply r ∷ []) ∷ []) (goes refl (flag (r .kind) 11 (omega arith) (r .flags / 2) refl))
-      (when-taken (isLayer r) (worded 7 (r .mode ∷ []) ∷ worded 15 (r .dx ∷ r .dy ∷ []) ∷ [])
+      (when-taken hasMask (worded PropertyType.apply (apply r ∷ []) ∷ []) (goes refl (flag (r .kind) 11 (omega arith) (r .flags / 2) refl))
+      (when-taken (isLayer r) (worded PropertyType.mode (r .mode ∷ []) ∷ worded PropertyType.offsets (r .dx ∷ r .dy ∷ []) ∷ [])
       (λ ts. goes refl mode-taken (goes refl offsets-taken ts))
       (closes refl (bare (r .kind) 0 (omega arith) refl)))))))
 
@@ -198,7 +200,7 @@ pub reads-image-properties : {f : List ℕ} {p : ℕ} → Stands f p (listBytes 
     → Reads (properties imageList 0) f p (record {
       compression = 1;
       unmapped = 0;
-      opacity = 255;
+      opacity = fullOpacity;
       mode = 0;
       visible = 0;
       apply = 1;

@@ -10,6 +10,8 @@ use native.Mathlib.Omega.{arith}
 use borrow.Author.Tests.{ne-eqb}
 use lib.Dec.{eqb}
 use lib.ListN.{length, length-append}
+use Rattle.xcf_numbers.specs.PropertyType
+use Rattle.xcf_numbers.specs.Refusal
 use Rattle.xcf_property.specs.declared.Properties.{Properties}
 use Rattle.xcf_walk.specs.Walk.{more, last, turns, loop}
 use Rattle.xcf_walk.specs.Fields.{word}
@@ -44,15 +46,15 @@ pub record Taken (list : ℕ) (x : Property) : Type 0 where
 
 -- a list of them, the last and no other of type 0
 pub data AllTaken (list : ℕ) : List Property → Type 0 where
-  closes : {x : Property} → eqb (x .kind) 0 ≡ true → Taken list x → AllTaken list (x ∷ [])
-  goes : {x : Property} {xs : List Property} → eqb (x .kind) 0 ≡ false → Taken list x → AllTaken list xs → AllTaken list (x ∷ xs)
+  closes : {x : Property} → eqb (x .kind) PropertyType.end ≡ true → Taken list x → AllTaken list (x ∷ [])
+  goes : {x : Property} {xs : List Property} → eqb (x .kind) PropertyType.end ≡ false → Taken list x → AllTaken list xs → AllTaken list (x ∷ xs)
 
 module _ {f : List ℕ} {list : ℕ} {x : Property} (t : Taken list x) where
   reads-content : (p at : ℕ) → Stands f p (x .payload)
       → Reads (content list (x .kind) at (length (x .payload))) f p (contentOf (x .payload)) (p + length (x .payload))
   unfolding content isColourMap payload
   reads-content p at s =
-      rw (ne-eqb _ _ (t .plain .1), and-false) (then _ (reads-must _ 6 at (t .sized)) (then _ (reads-bytes (x .payload) s) ends))
+      rw (ne-eqb _ _ (t .plain .1), and-false) (then _ (reads-must _ Refusal.badLength at (t .sized)) (then _ (reads-bytes (x .payload) s) ends))
 
   reads-property : (p : ℕ) → Stands f p (propertyBytes x)
       → Reads (property list) f p
@@ -69,7 +71,7 @@ module _ {f : List ℕ} {list : ℕ} {x : Property} (t : Taken list x) where
 
   reads-turn : (p : ℕ) (q : Properties) → q .unmapped ≡ 0 → Stands f p (propertyBytes x)
       → Reads (propertyTurn list q) f p
-      (cond (eqb (x .kind) 0) (last (putEntry list x q)) (more (putEntry list x q))) (p + length (propertyBytes x))
+      (cond (eqb (x .kind) PropertyType.end) (last (putEntry list x q)) (more (putEntry list x q))) (p + length (propertyBytes x))
   unfolding propertyTurn isFloating lacksMap
   reads-turn p q mapped s =
       then _ (reads-property p s)
@@ -82,7 +84,7 @@ property-long x = omega arith
 
 put-mapped : (list : ℕ) (x : Property) (q : Properties) → q .unmapped ≡ 0 → putEntry list x q .unmapped ≡ 0
 unfolding put
-put-mapped list x q mapped = rw mapped (cond-same (eqb (x .kind) 1) 0)
+put-mapped list x q mapped = rw mapped (cond-same (eqb (x .kind) PropertyType.colourMap) 0)
 
 -- the turns of a list, more of them than bytes are left
 turns-read : {f : List ℕ} {p list : ℕ} {xs : List Property} (q : Properties) (n : ℕ) → AllTaken list xs → q .unmapped ≡ 0

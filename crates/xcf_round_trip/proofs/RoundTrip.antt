@@ -10,17 +10,19 @@ use native.Mathlib.Nat.{add-zero, zero-add}
 use native.Mathlib.Omega.{arith}
 use lib.ListN.{length, getD, replicate}
 use lib.Seq.{take-append-seam}
+use Rattle.xcf_numbers.specs.Limit.{fileLimit, tableRows, tableSize}
+use Rattle.xcf_numbers.specs.Kind
 use Rattle.xcf_store.specs.Pointer.{pointerSize}
 use Rattle.xcf_store.specs.Word.{part}
 use Rattle.xcf_walk.specs.Walk.{got}
 use Rattle.xcf_table.specs.declared.Row.{Row}
-use Rattle.xcf_table.specs.Table.{tableSize, noRows, rowAt, unusedRow, tableOf, fileLimit}
+use Rattle.xcf_table.specs.Table.{noRows, rowAt, unusedRow, tableOf}
 use Rattle.xcf_table.specs.declared.canvas.Canvas.{Canvas}
 use Rattle.xcf_read.specs.Answer.{readingOf, reading}
 use Rattle.xcf_read_laws.proofs.Accepted.{read-walked}
 use Rattle.xcf_window.specs.Usable.{fits}
 use Rattle.xcf_decode.specs.Answer.{decoding}
-use Rattle.xcf_usable.specs.Usable.{tableRows, seenAt, masked, usable}
+use Rattle.xcf_usable.specs.Usable.{seenAt, masked, usable}
 use Rattle.xcf_usable.proofs.AllUsable.{all-usable}
 use Rattle.xcf_usable.proofs.RowFacts.{Use, unused, layer, mask, channel, row-use, kind-listed}
 use Rattle.xcf_usable.proofs.Order.{after-unused}
@@ -48,7 +50,7 @@ row-placed d p e = rw e
 
 -- an unused row that is usable is zero
 unused-zero : (c : Canvas) (names : ℕ) (table : List ℕ) (k : ℕ) → usable c names table k ≡ true
-    → rowAt table k .kind ≡ 0 → rowAt table k ≡ unusedRow
+    → rowAt table k .kind ≡ Kind.unused → rowAt table k ≡ unusedRow
 unused-zero c names table k ok e = go (row-use c names table k ok)
   where
     go : Use c names k (seenAt table k) (rowAt table k) (masked table k) → rowAt table k ≡ unusedRow
@@ -105,7 +107,7 @@ module _ (c : Canvas) (table names pixels lent : List ℕ) (low : (i : ℕ) → 
       (table-row ds start few (drawable k) k (rw count h))
 
   -- behind the used rows all are unused, in both tables
-  unused-behind : (n : ℕ) → usedRows table + n < tableRows → rowAt table (usedRows table + n) .kind ≡ 0
+  unused-behind : (n : ℕ) → usedRows table + n < tableRows → rowAt table (usedRows table + n) .kind ≡ Kind.unused
   unused-behind zero h = rw add-zero (used-end table (a .size))
   unused-behind (suc n) h =
       let e : usedRows table + suc n ≡ usedRows table + n + 1 = omega arith in
@@ -114,7 +116,7 @@ module _ (c : Canvas) (table names pixels lent : List ℕ) (low : (i : ℕ) → 
   row-unused : (k : ℕ) → usedRows table ≤ k → k < tableRows → rowAt table k ≡ unusedRow
   row-unused k h l =
       let e : k ≡ usedRows table + (k - usedRows table) = omega arith in
-      let zero : rowAt table k .kind ≡ 0 = rw e (unused-behind (k - usedRows table) (omega arith)) in
+      let zero : rowAt table k .kind ≡ Kind.unused = rw e (unused-behind (k - usedRows table) (omega arith)) in
       unused-zero c (length names) table k (all k l) zero
 
   unused-back : (k : ℕ) → usedRows table ≤ k → k < tableRows

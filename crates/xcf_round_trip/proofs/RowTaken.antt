@@ -9,6 +9,7 @@ use mathlib.Core.Bool.{true, false, cond}
 use mathlib.Core.Logic.{⊎-elim}
 use native.Mathlib.Numerals.{add-one}
 use native.Mathlib.Omega.{arith}
+use Rattle.xcf_numbers.specs.Limit.{layerLimit, channelLimit, tableRows}
 use Rattle.xcf_laws.proofs.Cases.{below-or}
 use Rattle.xcf_table.specs.declared.Row.{Row}
 use Rattle.xcf_table.specs.Table.{unusedRow, rowAt}
@@ -16,7 +17,7 @@ use Rattle.xcf_table.specs.declared.canvas.Canvas.{Canvas}
 use Rattle.xcf_parse.specs.declared.drawable.Fields.{Fields}
 use Rattle.xcf_parse.specs.declared.drawable.Layer.{Layer}
 use Rattle.xcf_row.specs.Row.{layerRow, channelRow, maskOwner, channelOwner}
-use Rattle.xcf_usable.specs.Usable.{tableRows, isLayer, isChannel, isUnused, before, rowBefore, seenAt, masked, usable}
+use Rattle.xcf_usable.specs.Usable.{isLayer, isChannel, isUnused, before, rowBefore, seenAt, masked, usable}
 use Rattle.xcf_usable.proofs.Counts.{before-next}
 use Rattle.xcf_usable.proofs.RowFacts.{Use, unused, layer, mask, channel}
 use Rattle.xcf_round_trip.specs.Taken.{RowExcepted, RowsExcepted}
@@ -55,7 +56,7 @@ module _ (c : Canvas) (names : ℕ) (table : List ℕ) (excepted : (k : ℕ) →
   }
 
   module _ (n : ℕ) (inside : n < tableRows) where
-    pub layer-taken : {l : ℕ} (x : Layer) (tiles : ℕ) → TakenTo c names table l 0 n → l < 48 → Like (rowAt table n) (layerRow x tiles n)
+    pub layer-taken : {l : ℕ} (x : Layer) (tiles : ℕ) → TakenTo c names table l 0 n → l < layerLimit → Like (rowAt table n) (layerRow x tiles n)
         → LayerGiven (c .base) x → (masked table n ≡ false → x .mask ≡ 0) → TakenTo c names table (l + 1) 0 (n + 1)
     unfolding seenAt
     layer-taken {l} x tiles t few like given alone =
@@ -66,7 +67,7 @@ module _ (c : Canvas) (names : ℕ) (table : List ℕ) (excepted : (k : ℕ) →
         (record { few = omega (arith, t .layers); channels = omega (arith, t .channels); unused = t .unused })))
         (rw (f .kind) (omega arith)) (rw (f .kind) (omega arith)) (rw (f .kind) refl)
 
-    pub channel-taken : {l m : ℕ} (y : Fields) (tiles : ℕ) → TakenTo c names table l m n → m < 32
+    pub channel-taken : {l m : ℕ} (y : Fields) (tiles : ℕ) → TakenTo c names table l m n → m < channelLimit
         → Like (rowAt table n) (channelRow (channelOwner c n) y tiles) → ChannelGiven (channelOwner c n) y
         → TakenTo c names table l (m + 1) (n + 1)
     unfolding seenAt

@@ -7,6 +7,8 @@ use mathlib.Core.List.{List, [], _∷_}
 use native.Mathlib.Omega.{arith}
 use borrow.Author.Tests.{eq-eqb, ne-eqb}
 use lib.ListN.{length, getD}
+use Rattle.xcf_numbers.specs.Limit.{fileLimit}
+use Rattle.xcf_numbers.specs.Kind
 use Rattle.xcf_store.specs.Pointer.{pointerSize}
 use Rattle.xcf_walk.specs.Walk.{Walk}
 use Rattle.xcf_table.specs.Table.{Rows, addRow}
@@ -84,10 +86,10 @@ pub record RowsRead (f : List ℕ) (c : Canvas) (layers channels : List ℕ) (ro
   pub first : GivesRows f (layerRows pointerSize c) layers rows middle
   pub last : GivesRows f (canvasChannelRows pointerSize c) channels middle all
 
-module _ {f : List ℕ} (small : length f ≤ 1073741824) (c : Canvas) where
+module _ {f : List ℕ} (small : length f ≤ fileLimit) (c : Canvas) where
   reads-channels : {ds : List Drawable} (p : ℕ) (rows : Rows) → Channels c (rows .count) ds → AllReadable ds → 0 < p
       → Stands f p (drawablesBytes ds p)
-      → (placesOf 1 ds p ≡ []) × GivesRows f (canvasChannelRows pointerSize c) (placesOf 3 ds p) rows (addAll rows ds p)
+      → (placesOf Kind.layer ds p ≡ []) × GivesRows f (canvasChannelRows pointerSize c) (placesOf Kind.channel ds p) rows (addAll rows ds p)
   unfolding addRow addAll kindPlaces
   reads-channels p rows none ws some s = (refl, gives-none)
   reads-channels p rows (channel {d = d} {ds} facts numbers xs) ws some s =
@@ -99,7 +101,7 @@ module _ {f : List ℕ} (small : length f ≤ 1073741824) (c : Canvas) where
       )
 
   pub reads-rows : {ds : List Drawable} (p : ℕ) (rows : Rows) → Ordered c (rows .count) ds → AllReadable ds → 0 < p
-      → Stands f p (drawablesBytes ds p) → RowsRead f c (placesOf 1 ds p) (placesOf 3 ds p) rows (addAll rows ds p)
+      → Stands f p (drawablesBytes ds p) → RowsRead f c (placesOf Kind.layer ds p) (placesOf Kind.channel ds p) rows (addAll rows ds p)
   unfolding addRow addAll
   reads-rows p rows (channels xs) ws some s =
       let all = reads-channels p rows xs ws some s in

@@ -6,10 +6,10 @@ use mathlib.Core.Path.{_≡_, sym, subst}
 use mathlib.Core.List.{List, _++_}
 use native.Mathlib.Omega.{arith}
 use lib.ListN.{length, length-append}
+use Rattle.xcf_numbers.specs.Limit.{rowSize, tableRows}
 use Rattle.xcf_table.specs.declared.Row.{Row}
-use Rattle.xcf_table.specs.Table.{rowSize, rowNumbers, rowIn, rowAt, Rows, addRow}
+use Rattle.xcf_table.specs.Table.{rowNumbers, rowIn, rowAt, Rows, addRow}
 use Rattle.xcf_table.proofs.Rows.{row-in-front, row-added}
-use Rattle.xcf_usable.specs.Usable.{tableRows}
 use Rattle.xcf_round_trip.proofs.RowGiven.{Like}
 
 -- the table's first rows are these but for places

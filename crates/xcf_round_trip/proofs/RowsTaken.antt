@@ -7,13 +7,14 @@ use mathlib.Core.List.{List}
 use mathlib.Core.Bool.{true, false≢true}
 use borrow.Author.Tests.{eq-eqb, lt-ltb}
 use lib.ListN.{length}
+use Rattle.xcf_numbers.specs.Limit.{layerLimit, channelLimit, rowSize, tableRows}
 use Rattle.xcf_table.specs.declared.Row.{Row}
-use Rattle.xcf_table.specs.Table.{rowSize, rowAt, Rows, addRow}
+use Rattle.xcf_table.specs.Table.{rowAt, Rows, addRow}
 use Rattle.xcf_table.specs.declared.canvas.Canvas.{Canvas}
 use Rattle.xcf_parse.specs.declared.drawable.Fields.{Fields}
 use Rattle.xcf_parse.specs.declared.drawable.Layer.{Layer}
 use Rattle.xcf_row.specs.Row.{layerRow, channelRow, maskOwner, channelOwner}
-use Rattle.xcf_usable.specs.Usable.{tableRows, masked}
+use Rattle.xcf_usable.specs.Usable.{masked}
 use Rattle.xcf_round_trip.specs.Taken.{RowExcepted, RowsExcepted}
 use Rattle.xcf_round_trip.proofs.StructureGiven.{LayerGiven, ChannelGiven}
 use Rattle.xcf_round_trip.proofs.RowGiven.{Like}
@@ -30,7 +31,7 @@ module _ (c : Canvas) (names : ℕ) (table : List ℕ) (excepted : (k : ℕ) →
   abbrev Taken : ℕ → ℕ → Rows → Type 0
   Taken = RowsTaken c names table
 
-  pub add-channel : {l m : ℕ} (rows : Rows) (y : Fields) (tiles : ℕ) → m < 32
+  pub add-channel : {l m : ℕ} (rows : Rows) (y : Fields) (tiles : ℕ) → m < channelLimit
       → ChannelGiven (channelOwner c (rows .count)) y → Taken l m rows
       → Taken l (m + 1) (addRow rows (channelRow (channelOwner c (rows .count)) y tiles))
   unfolding addRow
@@ -43,7 +44,7 @@ module _ (c : Canvas) (names : ℕ) (table : List ℕ) (excepted : (k : ℕ) →
             (t .taken (shown-before rows r (t .size) table s)) few (shown-last rows r (t .size) table s) given;
       }
 
-  pub add-layer : {l : ℕ} (rows : Rows) (x : Layer) (tiles : ℕ) → l < 48 → LayerGiven (c .base) x → x .mask ≡ 0
+  pub add-layer : {l : ℕ} (rows : Rows) (x : Layer) (tiles : ℕ) → l < layerLimit → LayerGiven (c .base) x → x .mask ≡ 0
       → Taken l 0 rows → Taken (l + 1) 0 (addRow rows (layerRow x tiles (rows .count)))
   unfolding addRow
   add-layer rows x tiles few given none t =
@@ -61,7 +62,7 @@ module _ (c : Canvas) (names : ℕ) (table : List ℕ) (excepted : (k : ℕ) →
   unfolding masked channelRow maskOwner
   mask-shown x y n tiles h like = rw (lt-ltb n tableRows h) (eq-eqb _ _ (ap (λ (q : Row). q .kind) like))
 
-  pub add-layer-mask : {l : ℕ} (rows : Rows) (x : Layer) (y : Fields) (tiles others : ℕ) → l < 48 → LayerGiven (c .base) x
+  pub add-layer-mask : {l : ℕ} (rows : Rows) (x : Layer) (y : Fields) (tiles others : ℕ) → l < layerLimit → LayerGiven (c .base) x
       → ChannelGiven (maskOwner x (rows .count)) y → Taken l 0 rows
       → Taken (l + 1) 0 (addRow (addRow rows (layerRow x others (rows .count))) (channelRow (maskOwner x (rows .count)) y tiles))
   unfolding addRow

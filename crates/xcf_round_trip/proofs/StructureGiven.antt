@@ -5,6 +5,8 @@ use mathlib.Core.Path.{_≡_, refl}
 use mathlib.Core.List.{List}
 use mathlib.Core.Bool.{true, false}
 use lib.Dec.{eqb}
+use Rattle.xcf_numbers.specs.Limit.{fullOpacity}
+use Rattle.xcf_numbers.specs.Refusal
 use Rattle.xcf_walk.specs.Walk.{Walk, here}
 use Rattle.xcf_walk.specs.Fields.{number, word, string}
 use Rattle.xcf_property.specs.Property.{imageList, layerList}
@@ -21,12 +23,12 @@ use Rattle.xcf_round_trip.proofs.OpacityRead.{ensures-opacity}
 pub record LayerGiven (base : ℕ) (x : Layer) : Type 0 where
   pub range : LayerInRange x
   pub type : typeOk base (x .form) ≡ true
-  pub opaque : x .fields .properties .opacity ≤ 255
+  pub opaque : x .fields .properties .opacity ≤ fullOpacity
 
 pub record ChannelGiven (o : Owner) (x : Fields) : Type 0 where
   pub width : Side (o .width)
   pub height : Side (o .height)
-  pub opaque : x .properties .opacity ≤ 255
+  pub opaque : x .properties .opacity ≤ fullOpacity
 
 module _ {f : List ℕ} {S : ℕ → Type 0} where
   -- two facts of one walk
@@ -35,7 +37,7 @@ module _ {f : List ℕ} {S : ℕ → Type 0} where
   ensures-both h x y = record { holds = λ at {a} e s. h a (x .holds at e s) (y .holds at e s) }
 
   fields-opaque : (size list : ℕ) → eqb list imageList ≡ false
-      → Ensures f S (λ x. x .properties .opacity ≤ 255) (fields size list)
+      → Ensures f S (λ x. x .properties .opacity ≤ fullOpacity) (fields size list)
   unfolding fields
   fields-opaque size list drawn =
       ensures-next string _ λ name. ensures-next here _ λ place. ensures-bind _ (ensures-opacity list drawn 0) λ p h.
@@ -44,17 +46,17 @@ module _ {f : List ℕ} {S : ℕ → Type 0} where
   type-given : (base : ℕ) → Ensures f S (λ t. typeOk base t ≡ true) (layerType base)
   unfolding layerType
   type-given base =
-      ensures-next here _ λ at. ensures-next word _ λ t. ensures-bind _ (ensures-must (typeOk base t) 10 at) λ _ e. ensures-done e
+      ensures-next here _ λ at. ensures-next word _ λ t. ensures-bind _ (ensures-must (typeOk base t) Refusal.disagrees at) λ _ e. ensures-done e
 
   layer-tested : (size base : ℕ)
-      → Ensures f S (λ x. (typeOk base (x .form) ≡ true) × (x .fields .properties .opacity ≤ 255)) (layer size base)
+      → Ensures f S (λ x. (typeOk base (x .form) ≡ true) × (x .fields .properties .opacity ≤ fullOpacity)) (layer size base)
   unfolding layer
   layer-tested size base =
       ensures-next side _ λ width. ensures-next side _ λ height. ensures-bind _ (type-given base) λ form t.
       ensures-bind _ (fields-opaque size layerList refl) λ x h. ensures-next (number size) _ λ mask. ensures-done (t, h)
 
   channel-opaque : (size : ℕ) (o : Owner) → eqb (o .kind) imageList ≡ false
-      → Ensures f S (λ x. x .properties .opacity ≤ 255) (channel size o)
+      → Ensures f S (λ x. x .properties .opacity ≤ fullOpacity) (channel size o)
   unfolding channel
   channel-opaque size o drawn = ensures-next (sideLike _) _ λ _. ensures-next (sideLike _) _ λ _. fields-opaque size (o .kind) drawn
 

@@ -8,6 +8,9 @@ use mathlib.Core.Bool.{Bool, true, false, cond}
 use native.Mathlib.Omega.{arith}
 use borrow.Author.Tests.{eq-eqb}
 use lib.ListN.{length}
+use Rattle.xcf_numbers.specs.Limit.{sideLimit, writtenTypeLimit}
+use Rattle.xcf_numbers.specs.Kind
+use Rattle.xcf_numbers.specs.Refusal
 use Rattle.xcf_walk.specs.Fields.{word}
 use Rattle.xcf_table.specs.declared.Row.{Row}
 use Rattle.xcf_range.proofs.Bounds.{bounds-within}
@@ -36,23 +39,23 @@ sides-length true width height form = words-length _
 sides-length false width height form = words-length _
 
 -- a side, one that has to be its owner's, and a layer's type
-module _ {f : List ℕ} {p : ℕ} (n : ℕ) (ns : List ℕ) (range : (1 ≤ n) × (n ≤ 16384)) (s : Stands f p (words (n ∷ ns))) where
+module _ {f : List ℕ} {p : ℕ} (n : ℕ) (ns : List ℕ) (range : (1 ≤ n) × (n ≤ sideLimit)) (s : Stands f p (words (n ∷ ns))) where
   side-ok : sideOk n ≡ true
   unfolding sideOk
-  side-ok = bounds-within 1 16384 n range
+  side-ok = bounds-within 1 sideLimit n range
 
   pub reads-side : Reads side f p n (p + 4)
   unfolding side word
-  reads-side = then-here _ (then _ (reads-number n ns s (omega arith)) (then _ (reads-must _ 4 p side-ok) ends))
+  reads-side = then-here _ (then _ (reads-number n ns s (omega arith)) (then _ (reads-must _ Refusal.badSide p side-ok) ends))
 
   reads-side-like : Reads (sideLike n) f p tt (p + 4)
   unfolding sideLike
-  reads-side-like = then-here _ (then _ reads-side (reads-must _ 10 p (eq-eqb n n refl)))
+  reads-side-like = then-here _ (then _ reads-side (reads-must _ Refusal.disagrees p (eq-eqb n n refl)))
 
 reads-type : {f : List ℕ} {p : ℕ} (base t : ℕ) (ns : List ℕ) → typeOk base t ≡ true → t ≤ 3 → Stands f p (words (t ∷ ns))
     → Reads (layerType base) f p t (p + 4)
 unfolding layerType word
-reads-type base t ns ok low s = then-here _ (then _ (reads-number t ns s (omega arith)) (then _ (reads-must _ 10 _ ok) ends))
+reads-type base t ns ok low s = then-here _ (then _ (reads-number t ns s (omega arith)) (then _ (reads-must _ Refusal.disagrees _ ok) ends))
 
 -- the fields of a drawable whose name stands at q, a layer that stands at p, and the owner that a mask's or channel's row shows
 abbrev pub fieldsOf : Drawable → ℕ → ℕ → Fields
@@ -107,11 +110,11 @@ module _ (d : Drawable) (w : Writable d) (l : Listed (d .row)) (h : ℕ) (some :
     unfolding structureBytes
     fields-stand = rw sides-length at (stands-behind (sidesOf (d .row)) _ s)
 
-    pub reads-layer-structure : (base : ℕ) → d .row .kind ≡ 1 → typeOk base (d .row .form) ≡ true → d .row .form ≤ 3
+    pub reads-layer-structure : (base : ℕ) → d .row .kind ≡ Kind.layer → typeOk base (d .row .form) ≡ true → d .row .form ≤ writtenTypeLimit
         → m < 4294967296 → Gives (layer 4 base) f p (layerOf d p h m)
     unfolding layer
     reads-layer-structure base kind type form below =
-        let is : isLayer (d .row) ≡ true = eq-eqb (d .row .kind) 1 kind in
+        let is : isLayer (d .row) ≡ true = eq-eqb (d .row .kind) Kind.layer kind in
         let at : p + 4 + 4 + 4 ≡ p + sidesSize (d .row) = rw is (omega arith) in
         let sides = rw is at sides-stand in
         let sides₁ = words-rest _ _ sides in

@@ -10,11 +10,12 @@ use native.Mathlib.Omega.{arith}
 use borrow.Author.Tests.{eqb-true}
 use lib.Dec.{eqb}
 use lib.ListN.{length, getD, replicate, length-append}
+use Rattle.xcf_numbers.specs.Limit.{rowSize, tableRows, tableSize}
 use Rattle.xcf_table.specs.declared.Row.{Row}
-use Rattle.xcf_table.specs.Table.{rowSize, tableSize, rowNumbers, Rows, noRows, addRow, rowIn, unusedRow, rowAt, tableOf}
+use Rattle.xcf_table.specs.Table.{rowNumbers, Rows, noRows, addRow, rowIn, unusedRow, rowAt, tableOf}
 use Rattle.xcf_table.proofs.Rows.{row-added, row-in-front}
 use Rattle.xcf_table.proofs.Tables.{table-length as rows-table, table-row as rows-row, table-unused as rows-unused}
-use Rattle.xcf_usable.specs.Usable.{tableRows, allZero}
+use Rattle.xcf_usable.specs.Usable.{allZero}
 use Rattle.xcf_drawable.specs.Drawable.{Drawable, drawableSize}
 use Rattle.xcf_round_trip.proofs.Parts.{readRow, addAll}
 use Rattle.xcf_round_trip.proofs.RowsRead.{placeAt}

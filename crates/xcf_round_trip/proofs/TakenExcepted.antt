@@ -8,11 +8,14 @@ use mathlib.Core.Bool.{Bool, true, false}
 use native.Mathlib.Omega.{arith}
 use borrow.Author.Tests.{eq-eqb, ne-eqb, eqb-true}
 use lib.Dec.{ltb, eqb}
+use Rattle.xcf_numbers.specs.Limit.{writtenTypeLimit, modeLimit, layerLimit, tableRows}
+use Rattle.xcf_numbers.specs.Flag
+use Rattle.xcf_numbers.specs.Kind
 use Rattle.xcf_table.specs.declared.Row.{Row}
 use Rattle.xcf_table.specs.Table.{unusedRow, rowAt}
 use Rattle.xcf_table.specs.declared.canvas.Canvas.{Canvas}
 use Rattle.xcf_usable.specs.declared.seen.Seen.{Seen}
-use Rattle.xcf_usable.specs.Usable.{tableRows, isChannel, isActiveLayer, isActiveChannel, isSelection, channelFlagsOk, before, seenAt, masked, noSecond, drawableOk, layerOk, layerFollows, channelOk, maskFollows, channelFollows, usableRow, usable}
+use Rattle.xcf_usable.specs.Usable.{isChannel, isActiveLayer, isActiveChannel, isSelection, channelFlagsOk, before, seenAt, masked, noSecond, drawableOk, layerOk, layerFollows, channelOk, maskFollows, channelFollows, usableRow, usable}
 use Rattle.xcf_usable.proofs.Each.{each}
 use Rattle.xcf_usable.proofs.Counts.{few-pass}
 use Rattle.xcf_usable.proofs.AllUsable.{all-usable}
@@ -22,7 +25,7 @@ use Rattle.xcf_round_trip.proofs.TableRead.{zero-row}
 use Rattle.xcf_round_trip.proofs.UseTaken.{NoSeconds}
 
 -- a row with its facts
-drawable-excepted : {names : ℕ} {r : Row} → DrawableFacts names r → r .mode ≤ 21 → r .form ≤ 3 → r .flags < 16 → RowExcepted names r
+drawable-excepted : {names : ℕ} {r : Row} → DrawableFacts names r → r .mode ≤ modeLimit → r .form ≤ writtenTypeLimit → r .flags < Flag.group → RowExcepted names r
 drawable-excepted d m f g = record {
   short = d .short;
   named = d .named;
@@ -53,13 +56,13 @@ module _ (c : Canvas) (names k : ℕ) (s : Seen) (r : Row) (hasMask : Bool) wher
   use-excepted (channel d ch v b) =
       drawable-excepted d (omega (arith, ch .mode)) (omega (arith, ch .form)) (omega (arith, ch .flags))
 
-  layer-alone : r .kind ≡ 1 → layerFollows s r ≡ true → NoSeconds s r
+  layer-alone : r .kind ≡ Kind.layer → layerFollows s r ≡ true → NoSeconds s r
   unfolding layerFollows
   layer-alone one e =
-      let t = each (ltb (s .layers) 48 ∷ eqb (s .channels) 0 ∷ eqb (s .unused) 0 ∷ noSecond (isActiveLayer r) (s .chosen) ∷ []) e in
+      let t = each (ltb (s .layers) layerLimit ∷ eqb (s .channels) 0 ∷ eqb (s .unused) 0 ∷ noSecond (isActiveLayer r) (s .chosen) ∷ []) e in
       record { chosen = t 3; active = rw (eq-eqb _ _ one); selection = rw (eq-eqb _ _ one) }
 
-  channel-alone : eqb (r .kind) 1 ≡ false → channelOk s r ≡ true → NoSeconds s r
+  channel-alone : eqb (r .kind) Kind.layer ≡ false → channelOk s r ≡ true → NoSeconds s r
   unfolding channelOk
   channel-alone other e =
       let t =
@@ -76,21 +79,21 @@ module _ (c : Canvas) (names k : ℕ) (s : Seen) (r : Row) (hasMask : Bool) wher
       layer-alone (l .kind)
       (each
       (drawableOk names r ∷ layerOk c k r hasMask ∷ layerFollows s r ∷ [])
-      (rw (ne-eqb (r .kind) 0 (λ z. omega (arith, l .kind)), eq-eqb (r .kind) 1 (l .kind)) at e)
+      (rw (ne-eqb (r .kind) Kind.unused (λ z. omega (arith, l .kind)), eq-eqb (r .kind) Kind.layer (l .kind)) at e)
       2)
   row-alone (mask d ch m) e =
-      let other = ne-eqb (r .kind) 1 (λ z. omega (arith, m .kind)) in
+      let other = ne-eqb (r .kind) Kind.layer (λ z. omega (arith, m .kind)) in
       channel-alone other
       (each
       (drawableOk names r ∷ channelOk s r ∷ maskFollows k s r ∷ [])
-      (rw (ne-eqb (r .kind) 0 (λ z. omega (arith, m .kind)), other, eq-eqb (r .kind) 2 (m .kind)) at e)
+      (rw (ne-eqb (r .kind) Kind.unused (λ z. omega (arith, m .kind)), other, eq-eqb (r .kind) Kind.mask (m .kind)) at e)
       1)
   row-alone (channel d ch v b) e =
-      let other = ne-eqb (r .kind) 1 (λ z. omega (arith, v .kind)) in
+      let other = ne-eqb (r .kind) Kind.layer (λ z. omega (arith, v .kind)) in
       channel-alone other
       (each
       (isChannel r ∷ drawableOk names r ∷ channelOk s r ∷ channelFollows c k s r ∷ [])
-      (rw (ne-eqb (r .kind) 0 (λ z. omega (arith, v .kind)), other, ne-eqb (r .kind) 2 (λ z. omega (arith, v .kind))) at e)
+      (rw (ne-eqb (r .kind) Kind.unused (λ z. omega (arith, v .kind)), other, ne-eqb (r .kind) Kind.mask (λ z. omega (arith, v .kind))) at e)
       2)
 
 -- a row that is no second one, and passes, has none before it

@@ -11,6 +11,7 @@ use borrow.Author.Tests.{ltb-true}
 use lib.Dec.{ltb}
 use lib.ListN.{length, getD, take, drop, take-append-drop}
 use lib.Seq.{take-take}
+use Rattle.xcf_numbers.specs.Limit.{fileLimit}
 use Rattle.xcf_store.specs.Word.{part, bigEndian, words}
 use Rattle.xcf_table.specs.declared.Row.{Row}
 use Rattle.xcf_tile.specs.Tile.{tileOf}
@@ -24,7 +25,7 @@ use Rattle.xcf_round_trip.proofs.Parts.{Stands, Rises}
 use Rattle.xcf_round_trip.proofs.Stands.{stands-front, stands-behind}
 use Rattle.xcf_round_trip.proofs.WordsRead.{word-value, words-first, words-rest}
 
-pub pointer-read : {f : List ℕ} {p : ℕ} (before : ℕ) (ps : List ℕ) → length f ≤ 1073741824 → Rises before ps (length f)
+pub pointer-read : {f : List ℕ} {p : ℕ} (before : ℕ) (ps : List ℕ) → length f ≤ fileLimit → Rises before ps (length f)
     → Stands f p (words (ps ++ (0 ∷ []))) → (t : ℕ) → t < length ps
     → numberAt pointerSize f (p + pointerSize * t) ≡ getD ps t 0
 unfolding Rises

@@ -5,15 +5,15 @@ use mathlib.Core.Path.{_≡_}
 use mathlib.Core.List.{List}
 use mathlib.Core.Bool.{true}
 use lib.ListN.{length, getD, take, replicate}
+use Rattle.xcf_numbers.specs.Limit.{tableRows, tableSize, wordLimit}
 use Rattle.xcf_store.specs.Pointer.{pointerSize}
 use Rattle.xcf_store.specs.Word.{part}
 use Rattle.xcf_table.specs.declared.Row.{Row}
-use Rattle.xcf_table.specs.Table.{tableSize, unusedRow, rowAt}
+use Rattle.xcf_table.specs.Table.{unusedRow, rowAt}
 use Rattle.xcf_table.specs.declared.canvas.Canvas.{Canvas}
 use Rattle.xcf_read.specs.Answer.{reading}
 use Rattle.xcf_window.specs.Usable.{fits}
 use Rattle.xcf_decode.specs.Answer.{decoding}
-use Rattle.xcf_usable.specs.Usable.{tableRows}
 use Rattle.xcf_image.specs.Image.{versionOf}
 use Rattle.xcf_image.specs.Parts.{rowsFrom}
 use Rattle.xcf_grid.specs.Drawn.{pixelSize}
@@ -77,6 +77,6 @@ pub record ReadsBack (c : Canvas) (table names pixels f lent : List ℕ) : Type 
 -- every input that the writer accepts; the numbers of a lent table have 32 bits
 abbrev pub RoundTrip : Type 0
 RoundTrip =
-    (c : Canvas) (table names pixels output lent : List ℕ) → ((i : ℕ) → getD table i 0 < 4294967296) → length lent ≡ tableSize →
+    (c : Canvas) (table names pixels output lent : List ℕ) → ((i : ℕ) → getD table i 0 < wordLimit) → length lent ≡ tableSize →
     let w = writing c table names pixels output in
     w .answer .number ≡ 0 → ReadsBack c table names pixels (take (w .answer .length) (w .output)) lent

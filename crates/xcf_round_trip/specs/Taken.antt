@@ -3,23 +3,26 @@
 use Prim.Native.Nat.{ℕ, _+_, _≤_, _<_}
 use mathlib.Core.Path.{_≡_}
 use mathlib.Core.List.{List}
+use Rattle.xcf_numbers.specs.Limit.{writtenTypeLimit, modeLimit, nameLimit, tableRows}
+use Rattle.xcf_numbers.specs.Flag
+use Rattle.xcf_numbers.specs.Kind
 use Rattle.xcf_table.specs.declared.Row.{Row}
 use Rattle.xcf_table.specs.Table.{rowAt}
 use Rattle.xcf_table.specs.declared.canvas.Canvas.{Canvas}
 use Rattle.xcf_read.specs.Answer.{reading}
-use Rattle.xcf_usable.specs.Usable.{tableRows, before, isActiveLayer, isActiveChannel, isSelection, badRow}
+use Rattle.xcf_usable.specs.Usable.{before, isActiveLayer, isActiveChannel, isSelection, badRow}
 use Rattle.xcf_round_trip.specs.RoundTrip.{withPlaces}
 
 -- what is asked of each row: 6 at most 1,024, 5 plus 6 at most the number of lent name bytes, 7 and 8 zero, mode at most 21, type at
 -- most 3, no group flag
 pub record RowExcepted (names : ℕ) (r : Row) : Type 0 where
-  pub short : r .size ≤ 1024
+  pub short : r .size ≤ nameLimit
   pub named : r .name + r .size ≤ names
   pub list : r .list ≡ 0
   pub tiles : r .tiles ≡ 0
-  pub mode : r .mode ≤ 21
-  pub form : r .form ≤ 3
-  pub ungrouped : r .flags < 16
+  pub mode : r .mode ≤ modeLimit
+  pub form : r .form ≤ writtenTypeLimit
+  pub ungrouped : r .flags < Flag.group
 
 -- and of all: selection on at most one channel or mask, active on at most one layer and one channel or mask
 pub record RowsExcepted (table : List ℕ) : Type 0 where
@@ -35,7 +38,7 @@ GivenIsTaken =
     x .answer .number ≡ 0
     → ((k : ℕ) → k < tableRows → let r = rowAt table k in r ≡ withPlaces (rowAt (x .table) k) (r .name) (r .list) (r .tiles))
     → ((k : ℕ) → k < tableRows → RowExcepted names (rowAt table k))
-    → ((k : ℕ) → k < tableRows → rowAt table k .kind ≡ 0 → rowAt table k .name ≡ 0)
+    → ((k : ℕ) → k < tableRows → rowAt table k .kind ≡ Kind.unused → rowAt table k .name ≡ 0)
     → RowsExcepted table
     → badRow (record { width = x .answer .width; height = x .answer .height; base = x .answer .base }) names table ≡ tableRows
 

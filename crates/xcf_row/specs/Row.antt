@@ -2,6 +2,8 @@
 use Prim.Native.Nat.{ℕ, _+_}
 use mathlib.Core.Bool.{cond}
 use lib.Dec.{eqb}
+use Rattle.xcf_numbers.specs.Flag
+use Rattle.xcf_numbers.specs.Kind
 use Rattle.xcf_property.specs.declared.Properties.{Properties}
 use Rattle.xcf_table.specs.declared.Row.{Row}
 use Rattle.xcf_grid.specs.Grid.{tileCount}
@@ -17,14 +19,15 @@ flag v bit = cond (eqb v 0) 0 bit
 
 -- 2 and 29 matter in layers, 3 and 4 in channels and masks; apply mask is always 0 without a mask
 unfoldable pub layerFlags : Properties → ℕ → ℕ
-layerFlags p mask = flag (p .visible) 1 + flag (cond (eqb mask 0) 0 (p .apply)) 2 + flag (p .active) 8 + flag (p .group) 16
+layerFlags p mask =
+    flag (p .visible) Flag.visible + flag (cond (eqb mask 0) 0 (p .apply)) Flag.apply + flag (p .active) Flag.active + flag (p .group) Flag.group
 
 unfoldable pub channelFlags : Properties → ℕ
-channelFlags p = flag (p .visible) 1 + flag (p .selection) 4 + flag (p .active) 8
+channelFlags p = flag (p .visible) Flag.visible + flag (p .selection) Flag.selection + flag (p .active) Flag.active
 
 unfoldable pub layerRow : Layer → ℕ → ℕ → Row
 layerRow x tiles k = record {
-  kind = 1;
+  kind = Kind.layer;
   width = x .width;
   height = x .height;
   depth = depthOf (x .form);
@@ -64,7 +67,8 @@ channelRow o x tiles = record {
 
 -- a mask's row takes its layer's sides and offsets; a channel has the canvas's sides and is its own owner
 unfoldable pub maskOwner : Layer → ℕ → Owner
-maskOwner x k = record { kind = 2; width = x .width; height = x .height; dx = x .fields .properties .dx; dy = x .fields .properties .dy; row = k }
+maskOwner x k =
+    record { kind = Kind.mask; width = x .width; height = x .height; dx = x .fields .properties .dx; dy = x .fields .properties .dy; row = k }
 
 unfoldable pub channelOwner : Canvas → ℕ → Owner
-channelOwner c k = record { kind = 3; width = c .width; height = c .height; dx = 0; dy = 0; row = k }
+channelOwner c k = record { kind = Kind.channel; width = c .width; height = c .height; dx = 0; dy = 0; row = k }

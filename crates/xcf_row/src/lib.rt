@@ -1,10 +1,12 @@
 // The row of a layer, a mask or a channel, from what its structure says.
 ghost use mathlib.Core.Path.{_≡_};
 ghost use Prim.Native.Nat.{_≤_};
-ghost use Rattle.xcf_table.specs.Table.{fileLimit};
+ghost use Rattle.xcf_numbers.specs.Limit.{fileLimit, sideLimit};
 ghost use Rattle.xcf_row.specs.Row.{flag, layerFlags, channelFlags, layerRow, channelRow, maskOwner, channelOwner};
 ghost use Rattle.xcf_parse.specs.Parts.{FieldsLow, LayerLow};
 use xcf_grid::tile_count;
+use xcf_numbers::flag;
+use xcf_numbers::kind;
 use xcf_parse::drawable::Fields;
 use xcf_parse::drawable::Layer;
 use xcf_parse::drawable::Owner;
@@ -23,13 +25,18 @@ fn layer_flags(p: Properties, mask: u32) -> u32
     ensures { λ r. ⌜ r ≡ layerFlags p mask ⌝ }
 {
     let apply = if mask == 0 { 0 } else { p.apply };
-    flag(p.visible, 1) + flag(apply, 2) + flag(p.active, 8) + flag(p.group, 16)
+    flag(p.visible, flag::VISIBLE)
+        + flag(apply, flag::APPLY)
+        + flag(p.active, flag::ACTIVE)
+        + flag(p.group, flag::GROUP)
 }
 
 fn channel_flags(p: Properties) -> u32
     ensures { λ r. ⌜ r ≡ channelFlags p ⌝ }
 {
-    flag(p.visible, 1) + flag(p.selection, 4) + flag(p.active, 8)
+    flag(p.visible, flag::VISIBLE)
+        + flag(p.selection, flag::SELECTION)
+        + flag(p.active, flag::ACTIVE)
 }
 
 pub fn layer_row(x: Layer, tiles: usize, k: u32) -> Row
@@ -39,7 +46,7 @@ pub fn layer_row(x: Layer, tiles: usize, k: u32) -> Row
     let own = x.fields;
     let p = own.properties;
     Row {
-        kind: 1,
+        kind: kind::LAYER,
         width: x.width,
         height: x.height,
         depth: depth_of(x.form),
@@ -59,7 +66,7 @@ pub fn layer_row(x: Layer, tiles: usize, k: u32) -> Row
 }
 
 pub fn channel_row(o: Owner, x: Fields, tiles: usize) -> Row
-    requires { ⌜ (tiles ≤ fileLimit) × (o .width ≤ 16384) × (o .height ≤ 16384) × FieldsLow x fileLimit ⌝ }
+    requires { ⌜ (tiles ≤ fileLimit) × (o .width ≤ sideLimit) × (o .height ≤ sideLimit) × FieldsLow x fileLimit ⌝ }
     ensures { λ r. ⌜ r ≡ channelRow o x tiles ⌝ }
 {
     let p = x.properties;
@@ -89,7 +96,7 @@ pub fn mask_owner(x: Layer, k: u32) -> Owner
     let own = x.fields;
     let p = own.properties;
     Owner {
-        kind: 2,
+        kind: kind::MASK,
         width: x.width,
         height: x.height,
         dx: p.dx,
@@ -102,7 +109,7 @@ pub fn channel_owner(c: Canvas, k: u32) -> Owner
     ensures { λ r. ⌜ r ≡ channelOwner c k ⌝ }
 {
     Owner {
-        kind: 3,
+        kind: kind::CHANNEL,
         width: c.width,
         height: c.height,
         dx: 0,

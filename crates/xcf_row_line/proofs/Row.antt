@@ -6,9 +6,9 @@ use mathlib.Core.List.{List, _++_, flatMap}
 use Prim.Native.Nat.{ℕ, _+_, _-_, _*_, _≤_}
 use native.Mathlib.Omega.{arith}
 use lib.ListN.{length, take, drop, getD, length-take}
+use Rattle.xcf_numbers.specs.Limit.{rowSize}
 use Rattle.xcf_store.specs.Put.{PutWithin}
 use Rattle.xcf_store.proofs.Stores.{within-append, within-more}
-use Rattle.xcf_table.specs.Table.{rowSize}
 use Rattle.xcf_table.proofs.Rows.{row-there}
 use Rattle.xcf_text.specs.Text.{newline, decimal, spaced, labelled, lineSize}
 use Rattle.xcf_text.specs.Words.{bad}

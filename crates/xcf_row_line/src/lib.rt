@@ -1,24 +1,25 @@
 // The line of a row in a listing.
 ghost use Prim.Native.Nat.{_+_, _*_, _≤_};
 ghost use lib.ListN.{length};
+ghost use Rattle.xcf_numbers.specs.Limit.{rowSize};
 ghost use Rattle.xcf_store.specs.Put.{PutWithin};
-ghost use Rattle.xcf_table.specs.Table.{rowSize};
 ghost use Rattle.xcf_text.specs.Text.{lineSize};
-ghost use Rattle.xcf_row_line.specs.RowLine.{kindName, rowLine};
+ghost use Rattle.xcf_row_line.specs.RowLine.{kindName, rowLine, kindSize};
+use xcf_numbers::kind;
+use xcf_numbers::limit::ROW_SIZE;
 use xcf_store::put::put_bytes;
-use xcf_table::ROW_SIZE;
 use xcf_text::put_all;
 use xcf_text::put_decimal;
 use xcf_text::put_last;
 
 fn put_kind(text: &mut [u8], at: usize, kind: u32) -> usize
-    requires { ⌜ at + 8 ≤ length (now text) ⌝ }
-    ensures { λ r. ⌜ PutWithin (now (text .entry)) at (kindName kind) 8 r (now (text .exit)) ⌝ }
+    requires { ⌜ at + kindSize ≤ length (now text) ⌝ }
+    ensures { λ r. ⌜ PutWithin (now (text .entry)) at (kindName kind) kindSize r (now (text .exit)) ⌝ }
 {
-    if kind == 1 {
+    if kind == kind::LAYER {
         return put_bytes(text, at, b" layer");
     }
-    if kind == 2 {
+    if kind == kind::MASK {
         return put_bytes(text, at, b" mask");
     }
     put_bytes(text, at, b" channel")

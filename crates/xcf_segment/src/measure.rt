@@ -3,6 +3,7 @@ ghost use mathlib.Core.Path.{_≡_};
 ghost use mathlib.Core.List.{List};
 ghost use Prim.Native.Nat.{ℕ, _+_, _≤_};
 ghost use lib.ListN.{length};
+ghost use Rattle.xcf_numbers.specs.Limit.{streamLimit};
 ghost use Rattle.xcf_segment.specs.Segment.{segmentBytes, encodeStream};
 ghost use Rattle.xcf_segment.specs.Parts.{headSize, segmentRead};
 use crate::segment::SegmentRead;
@@ -20,7 +21,7 @@ fn head_size(count: usize) -> usize
 
 // The length of a segment's operation, wherever in a stream the segment's bytes stand.
 fn segment_size(segment: SegmentRead) -> usize
-    requires { ⌜ segment .count ≤ 4096 ⌝ }
+    requires { ⌜ segment .count ≤ streamLimit ⌝ }
     ensures { λ r. ⌜ ((stream : List ℕ) (at : ℕ) → at + segment .count ≤ length stream → r ≡ length (segmentBytes (segmentRead stream at segment))) ⌝ }
 {
     if segment.run {
@@ -31,7 +32,7 @@ fn segment_size(segment: SegmentRead) -> usize
 
 // The length of the stream's encoding.
 pub fn encoded_size(stream: &[u8]) -> usize
-    requires { ⌜ length (now stream) ≤ 4096 ⌝ }
+    requires { ⌜ length (now stream) ≤ streamLimit ⌝ }
     ensures { λ r. ⌜ r ≡ length (encodeStream (now (stream .entry))) ⌝ }
 {
     let mut at = 0;

@@ -2,6 +2,7 @@
 ghost use mathlib.Core.List.{[], _∷_};
 ghost use Prim.Native.Nat.{_+_, _-_, _/_, _%_, _≤_, _<_};
 ghost use lib.ListN.{length, take, drop};
+ghost use Rattle.xcf_numbers.specs.Limit.{streamLimit};
 ghost use Rattle.xcf_segment.specs.Segment.{headBytes, segmentBytes, encodeStream, runOf, copyOf};
 ghost use Rattle.xcf_segment.specs.Parts.{SegmentAt, segmentRead};
 ghost use Rattle.xcf_store.specs.Put.{Put};
@@ -9,7 +10,7 @@ use crate::segment::SegmentRead;
 use crate::segment::segment_at;
 
 fn put_long_head(output: &mut [u8], to: usize, opcode: u8, count: usize) -> usize
-    requires { ⌜ (to + 3 ≤ length (now output)) × (count ≤ 4096) ⌝ }
+    requires { ⌜ (to + 3 ≤ length (now output)) × (count ≤ streamLimit) ⌝ }
     ensures { λ r. ⌜ Put (now (output .entry)) to (opcode ∷ count / 256 ∷ count % 256 ∷ []) r (now (output .exit)) ⌝ }
 {
     output[to] = opcode;
@@ -20,7 +21,7 @@ fn put_long_head(output: &mut [u8], to: usize, opcode: u8, count: usize) -> usiz
 
 // A run of `count` bytes `value`.
 fn put_run(output: &mut [u8], to: usize, count: usize, value: u8) -> usize
-    requires { ⌜ (0 < count) × ((count ≤ 4096) × (to + length (segmentBytes (runOf count value)) ≤ length (now output))) ⌝ }
+    requires { ⌜ (0 < count) × ((count ≤ streamLimit) × (to + length (segmentBytes (runOf count value)) ≤ length (now output))) ⌝ }
     ensures { λ r. ⌜ Put (now (output .entry)) to (segmentBytes (runOf count value)) r (now (output .exit)) ⌝ }
 {
     if count <= 127 {
@@ -34,7 +35,7 @@ fn put_run(output: &mut [u8], to: usize, count: usize, value: u8) -> usize
 }
 
 fn put_copy_head(output: &mut [u8], to: usize, count: usize) -> usize
-    requires { ⌜ (0 < count) × ((count ≤ 4096) × (to + length (headBytes count (256 - count) 128) ≤ length (now output))) ⌝ }
+    requires { ⌜ (0 < count) × ((count ≤ streamLimit) × (to + length (headBytes count (256 - count) 128) ≤ length (now output))) ⌝ }
     ensures { λ r. ⌜ Put (now (output .entry)) to (headBytes count (256 - count) 128) r (now (output .exit)) ⌝ }
 {
     if count <= 127 {
@@ -46,7 +47,7 @@ fn put_copy_head(output: &mut [u8], to: usize, count: usize) -> usize
 
 // The `count` bytes of the stream at `at`, copied.
 fn put_copy(output: &mut [u8], to: usize, stream: &[u8], at: usize, count: usize) -> usize
-    requires { ⌜ (0 < count) × ((count ≤ 4096) × ((at + count ≤ length (now stream)) × (to + length (segmentBytes (copyOf (take count (drop at (now stream))))) ≤ length (now output)))) ⌝ }
+    requires { ⌜ (0 < count) × ((count ≤ streamLimit) × ((at + count ≤ length (now stream)) × (to + length (segmentBytes (copyOf (take count (drop at (now stream))))) ≤ length (now output)))) ⌝ }
     ensures { λ r. ⌜ Put (now (output .entry)) to (segmentBytes (copyOf (take count (drop at (now (stream .entry)))))) r (now (output .exit)) ⌝ }
 {
     let body = put_copy_head(output, to, count);
@@ -63,7 +64,7 @@ fn put_segment(
     at: usize,
     segment: SegmentRead,
 ) -> usize
-    requires { ⌜ (length (now stream) ≤ 4096) × SegmentAt (now stream) at segment ⌝ }
+    requires { ⌜ (length (now stream) ≤ streamLimit) × SegmentAt (now stream) at segment ⌝ }
     requires { ⌜ to + length (segmentBytes (segmentRead (now stream) at segment)) ≤ length (now output) ⌝ }
     ensures { λ r. ⌜ Put (now (output .entry)) to (segmentBytes (segmentRead (now (stream .entry)) at segment)) r (now (output .exit)) ⌝ }
 {
@@ -75,7 +76,7 @@ fn put_segment(
 
 // The stream's encoding at the output's start.
 pub fn put_stream(stream: &[u8], output: &mut [u8]) -> usize
-    requires { ⌜ (length (now stream) ≤ 4096) × (length (encodeStream (now stream)) ≤ length (now output)) ⌝ }
+    requires { ⌜ (length (now stream) ≤ streamLimit) × (length (encodeStream (now stream)) ≤ length (now output)) ⌝ }
     ensures { λ r. ⌜ Put (now (output .entry)) 0 (encodeStream (now (stream .entry))) r (now (output .exit)) ⌝ }
 {
     let mut at = 0;

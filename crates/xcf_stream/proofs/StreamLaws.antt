@@ -10,6 +10,7 @@ use native.Mathlib.Omega.{arith}
 use borrow.Author.Tests.{ltb-false, le-leb, lt-ltb}
 use lib.ListN.{length, getD, drop, length-replicate, length-take}
 use lib.Dec.{ltb, leb, eqb}
+use Rattle.xcf_numbers.specs.Mark
 use Rattle.xcf_operation.specs.Operation.{Head, runHead, copyHead, cut, headAt, headOf, Operation, gives, short, over, unlessFails, operationAt, operationOf}
 use Rattle.xcf_stream.specs.Stream.{Stream, ends, adds, streamFrom, streamWithin, streamAt}
 use Rattle.xcf_laws.proofs.Cases.{by-cases}
@@ -72,11 +73,11 @@ within-same zero zero ws at left p q = refl
 within-same zero (suc g) ws at left p q = rw (past-end ws at left (omega arith))
 within-same (suc f) zero ws at left p q = rw (past-end ws at left (omega arith))
 within-same (suc f) (suc g) ws at left p q =
-    ap (λ (s : Stream). cond (ltb 0 left) s (ends 0 at))
+    ap (λ (s : Stream). cond (ltb 0 left) s (ends Mark.good at))
     (from-same (streamWithin f ws) (streamWithin g ws) ws at left (operationAt ws at left) (sound ws at left refl)
     (λ n l h. within-same f g ws n l (omega arith) (omega arith)))
 
-within-done : (f : ℕ) (ws : List ℕ) (at : ℕ) → streamWithin f ws at 0 ≡ ends 0 at
+within-done : (f : ℕ) (ws : List ℕ) (at : ℕ) → streamWithin f ws at 0 ≡ ends Mark.good at
 unfolding streamWithin
 within-done zero ws at = refl
 within-done (suc f) ws at = refl
@@ -85,7 +86,7 @@ within-op : (f : ℕ) (ws : List ℕ) (at left : ℕ) → 0 < left → streamWit
 unfolding streamWithin
 within-op f ws at left h = simp (lt-ltb _ _ h)
 
-pub stream-done : (ws : List ℕ) (at : ℕ) → streamAt ws at 0 ≡ ends 0 at
+pub stream-done : (ws : List ℕ) (at : ℕ) → streamAt ws at 0 ≡ ends Mark.good at
 unfolding streamAt
 stream-done ws at = within-done (length ws - at) ws at
 

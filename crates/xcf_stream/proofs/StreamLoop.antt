@@ -8,6 +8,7 @@ use mathlib.Core.Bool.{Bool, true, false}
 use Prim.Native.Nat.{ℕ, _+_, _*_, _-_, _≤_, _<_}
 use native.Mathlib.Omega.{arith}
 use lib.ListN.{length, getD, length-replicate, length-take, length-drop}
+use Rattle.xcf_numbers.specs.Mark
 use Rattle.xcf_operation.specs.Operation.{gives, operationAt}
 use Rattle.xcf_stream.specs.Stream.{Stream, ends, streamFrom, streamAt}
 use Rattle.xcf_operation.specs.declared.OperationRead.{OperationRead}
@@ -90,10 +91,10 @@ module _ {ws : List ℕ} {from n depth k : ℕ} {start pixels : List ℕ} {pos l
       (given-length ws run at size (fits ws pos left e f .present))
       (going-more g bs next h (found ws pos left e f))
 
-  pub going-short : r ≡ Short → Streamed ws from n depth k start (record { mark = 20; at = pos; operations = count }) pixels
+  pub going-short : r ≡ Short → Streamed ws from n depth k start (record { mark = Mark.short; at = pos; operations = count }) pixels
   unfolding streamFrom
-  going-short f = going-stop g 20 (stream-op ws pos left h (found ws pos left e f))
+  going-short f = going-stop g Mark.short (stream-op ws pos left h (found ws pos left e f))
 
-  pub going-over : r ≡ Over → Streamed ws from n depth k start (record { mark = 21; at = pos; operations = count }) pixels
+  pub going-over : r ≡ Over → Streamed ws from n depth k start (record { mark = Mark.overrun; at = pos; operations = count }) pixels
   unfolding streamFrom
-  going-over f = going-stop g 21 (stream-op ws pos left h (found ws pos left e f))
+  going-over f = going-stop g Mark.overrun (stream-op ws pos left h (found ws pos left e f))

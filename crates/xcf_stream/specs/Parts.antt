@@ -3,6 +3,7 @@ use mathlib.Core.Path.{_≡_}
 use mathlib.Core.List.{List, [], _∷_}
 use Prim.Native.Nat.{ℕ, _+_, _*_, _≤_, _<_}
 use lib.ListN.{length, set}
+use Rattle.xcf_numbers.specs.Limit.{wordLimit}
 use Rattle.xcf_stream.specs.declared.StreamEnd.{StreamEnd}
 use Rattle.xcf_stream.specs.Stream.{streamAt}
 use Rattle.xcf_stream.specs.Streams.{streamsAt}
@@ -23,14 +24,14 @@ scatterAll buf k depth (p ∷ ps) = scatterAll (scatter buf k depth p) (k + 1) d
 -- room for `count` bytes from `at` on, `step` apart
 pub record Room (buf : List ℕ) (at step count : ℕ) : Type 0 where
   pub fits : at + step * count < length buf + step
-  pub small : length buf + step < 4294967296
+  pub small : length buf + step < wordLimit
 
 -- a place in the window, and room for byte k of n pixels
 pub record Plane (ws : List ℕ) (from n depth k : ℕ) (pixels : List ℕ) : Type 0 where
   pub starts : from ≤ length ws
   pub below : k < depth
   pub exact : length pixels ≡ depth * n
-  pub small : length pixels + depth < 4294967296
+  pub small : length pixels + depth < wordLimit
 
 -- how the stream there ended, with its bytes put into the pixels
 pub record Streamed (ws : List ℕ) (from n depth k : ℕ) (old : List ℕ) (r : StreamEnd) (new : List ℕ) : Type 0 where
@@ -51,4 +52,4 @@ pub record StreamedAll (ws : List ℕ) (n depth : ℕ) (old : List ℕ) (r : Str
 -- a pixel buffer of the tile's length
 pub record Sized (n depth : ℕ) (pixels : List ℕ) : Type 0 where
   pub exact : length pixels ≡ n * depth
-  pub small : length pixels + depth < 4294967296
+  pub small : length pixels + depth < wordLimit

@@ -3,6 +3,7 @@ use Prim.Native.Nat.{ℕ, zero, suc, _+_}
 use mathlib.Core.List.{List, [], _∷_}
 use mathlib.Core.Bool.{cond}
 use lib.Dec.{eqb}
+use Rattle.xcf_numbers.specs.Mark
 use Rattle.xcf_stream.specs.Stream.{Stream, streamAt}
 
 -- the streams of a tile together; `planes` has the bytes of each stream that was begun
@@ -21,5 +22,5 @@ before s t =
 
 -- `count` streams of n bytes
 unfoldable pub streamsAt : ℕ → List ℕ → ℕ → ℕ → Streams
-streamsAt zero ws at n = record { mark = 0; at = at; operations = 0; planes = [] }
+streamsAt zero ws at n = record { mark = Mark.good; at = at; operations = 0; planes = [] }
 streamsAt (suc count) ws at n = before (streamAt ws at n) (streamsAt count ws (streamAt ws at n .at) n)

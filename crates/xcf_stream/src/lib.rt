@@ -4,6 +4,7 @@ pub mod scatter;
 ghost use mathlib.Core.Path.{_≡_};
 ghost use Rattle.xcf_stream.specs.Parts.{endedAt, Plane, Streamed, StreamedAll, Sized};
 use crate::scatter::put_given;
+use xcf_numbers::mark;
 use xcf_operation::OperationRead;
 use xcf_operation::operation_at;
 
@@ -42,8 +43,8 @@ fn stream(
     let mut operations: usize = 0;
     while 0 < left {
         match operation_at(window, at, left) {
-            OperationRead::Short => return ended(20, at, operations),
-            OperationRead::Over => return ended(21, at, operations),
+            OperationRead::Short => return ended(mark::SHORT, at, operations),
+            OperationRead::Over => return ended(mark::OVERRUN, at, operations),
             OperationRead::Given {
                 run,
                 from,
@@ -57,7 +58,7 @@ fn stream(
             }
         }
     }
-    ended(0, at, operations)
+    ended(mark::GOOD, at, operations)
 }
 
 // A stream of n bytes for each byte of the pixel.
@@ -77,5 +78,5 @@ pub fn streams(window: &[u8], n: usize, depth: usize, pixels: &mut [u8]) -> Stre
         }
         k += 1;
     }
-    ended(0, at, operations)
+    ended(mark::GOOD, at, operations)
 }

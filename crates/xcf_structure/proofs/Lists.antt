@@ -6,6 +6,7 @@ use mathlib.Core.Bool.{Bool, true, false, cond}
 use Prim.Native.Nat.{ℕ, _+_}
 use lib.ListN.{length, length-append}
 use lib.Dec.{eqb}
+use Rattle.xcf_numbers.specs.PropertyType
 use Rattle.xcf_laws.proofs.FlatMaps.{flatMap-append}
 use Rattle.xcf_property.specs.Property.{activeType}
 use Rattle.xcf_table.specs.declared.Row.{Row}
@@ -33,11 +34,11 @@ unfolding flatMap propertyBytes wordBytes
 one-words kind a = refl
 
 -- opacity and visibility, mode and offsets
-shown-words : (a b : ℕ) → listBytes (worded 6 (a ∷ []) ∷ worded 8 (b ∷ []) ∷ []) ≡ words (6 ∷ 4 ∷ a ∷ 8 ∷ 4 ∷ b ∷ [])
+shown-words : (a b : ℕ) → listBytes (worded PropertyType.opacity (a ∷ []) ∷ worded PropertyType.visible (b ∷ []) ∷ []) ≡ words (PropertyType.opacity ∷ 4 ∷ a ∷ PropertyType.visible ∷ 4 ∷ b ∷ [])
 unfolding flatMap propertyBytes wordBytes
 shown-words a b = refl
 
-layer-words : (a b c : ℕ) → listBytes (worded 7 (a ∷ []) ∷ worded 15 (b ∷ c ∷ []) ∷ []) ≡ words (7 ∷ 4 ∷ a ∷ 15 ∷ 8 ∷ b ∷ c ∷ [])
+layer-words : (a b c : ℕ) → listBytes (worded PropertyType.mode (a ∷ []) ∷ worded PropertyType.offsets (b ∷ c ∷ []) ∷ []) ≡ words (PropertyType.mode ∷ 4 ∷ a ∷ PropertyType.offsets ∷ 8 ∷ b ∷ c ∷ [])
 unfolding flatMap propertyBytes wordBytes
 layer-words a b c = refl
 
@@ -47,30 +48,30 @@ module _ (r : Row) (hasMask : Bool) where
   endOn = words (0 ∷ 0 ∷ [])
 
   abbrev pub layerOn : List ℕ
-  layerOn = words (when (isLayer r) (7 ∷ 4 ∷ r .mode ∷ 15 ∷ 8 ∷ r .dx ∷ r .dy ∷ [])) ++ endOn
+  layerOn = words (when (isLayer r) (PropertyType.mode ∷ 4 ∷ r .mode ∷ PropertyType.offsets ∷ 8 ∷ r .dx ∷ r .dy ∷ [])) ++ endOn
 
   abbrev pub applyOn : List ℕ
-  applyOn = words (when hasMask (11 ∷ 4 ∷ apply r ∷ [])) ++ layerOn
+  applyOn = words (when hasMask (PropertyType.apply ∷ 4 ∷ apply r ∷ [])) ++ layerOn
 
   abbrev pub shownOn : List ℕ
-  shownOn = words (6 ∷ 4 ∷ r .opacity ∷ 8 ∷ 4 ∷ visible r ∷ []) ++ applyOn
+  shownOn = words (PropertyType.opacity ∷ 4 ∷ r .opacity ∷ PropertyType.visible ∷ 4 ∷ visible r ∷ []) ++ applyOn
 
   abbrev pub activeOn : List ℕ
   activeOn = words (when (eqb (active r) 1) (activeType (r .kind) ∷ 0 ∷ [])) ++ shownOn
 
   abbrev pub selectionOn : List ℕ
-  selectionOn = words (when (eqb (selection r) 1) (4 ∷ 0 ∷ [])) ++ activeOn
+  selectionOn = words (when (eqb (selection r) 1) (PropertyType.selection ∷ 0 ∷ [])) ++ activeOn
 
 pub list-words : (r : Row) (hasMask : Bool) → listBytes (drawableProperties r hasMask) ≡ selectionOn r hasMask
 unfolding drawableProperties
 list-words r hasMask =
     list-six
-    (when (eqb (selection r) 1) (worded 4 [] ∷ []))
+    (when (eqb (selection r) 1) (worded PropertyType.selection [] ∷ []))
     (when (eqb (active r) 1) (worded (activeType (r .kind)) [] ∷ []))
-    (worded 6 (r .opacity ∷ []) ∷ worded 8 (visible r ∷ []) ∷ [])
-    (when hasMask (worded 11 (apply r ∷ []) ∷ []))
-    (when (isLayer r) (worded 7 (r .mode ∷ []) ∷ worded 15 (r .dx ∷ r .dy ∷ []) ∷ []))
-    (worded 0 [] ∷ [])
+    (worded PropertyType.opacity (r .opacity ∷ []) ∷ worded PropertyType.visible (visible r ∷ []) ∷ [])
+    (when hasMask (worded PropertyType.apply (apply r ∷ []) ∷ []))
+    (when (isLayer r) (worded PropertyType.mode (r .mode ∷ []) ∷ worded PropertyType.offsets (r .dx ∷ r .dy ∷ []) ∷ []))
+    (worded PropertyType.end [] ∷ [])
     ∙ rw (
       list-when (eqb (selection r) 1) _ _ (flag-words 4),
       list-when (eqb (active r) 1) _ _ (flag-words (activeType (r .kind))),

@@ -4,10 +4,18 @@ use mathlib.Core.List.{List, [], _∷_, _++_, flatMap}
 use mathlib.Core.Bool.{Bool, cond}
 use lib.ListN.{length}
 use lib.Dec.{eqb}
+use Rattle.xcf_numbers.specs.PropertyType
 use Rattle.xcf_property.specs.Property.{activeType}
 use Rattle.xcf_table.specs.declared.Row.{Row}
 use Rattle.xcf_usable.specs.Usable.{isLayer, visible, apply, selection, active}
 use Rattle.xcf_store.specs.Word.{wordBytes, words, when}
+
+-- the most bytes of a drawable's properties, and of its structure
+abbrev pub propertiesLimit : ℕ
+propertiesLimit = 88
+
+abbrev pub structureLimit : ℕ
+structureLimit = 1200
 
 -- a name's length word, and its bytes closed by a zero; an empty name is a length of 0
 unfoldable pub nameBytes : List ℕ → List ℕ
@@ -31,11 +39,12 @@ worded kind ns = record { kind = kind; payload = words ns }
 -- a layer's: 2 if active, 6, 8, 11 if it has a mask, 7, 15, 0; a channel's and a mask's: 4 if selection, 3 if active, 6, 8, 0
 unfoldable pub drawableProperties : Row → Bool → List Property
 drawableProperties r hasMask =
-    when (eqb (selection r) 1) (worded 4 [] ∷ [])
+    when (eqb (selection r) 1) (worded PropertyType.selection [] ∷ [])
     ++ (when (eqb (active r) 1) (worded (activeType (r .kind)) [] ∷ [])
-    ++ (worded 6 (r .opacity ∷ []) ∷ worded 8 (visible r ∷ [])
-    ∷ (when hasMask (worded 11 (apply r ∷ []) ∷ [])
-    ++ (when (isLayer r) (worded 7 (r .mode ∷ []) ∷ worded 15 (r .dx ∷ r .dy ∷ []) ∷ []) ++ (worded 0 [] ∷ [])))))
+    ++ (worded PropertyType.opacity (r .opacity ∷ []) ∷ worded PropertyType.visible (visible r ∷ [])
+    ∷ (when hasMask (worded PropertyType.apply (apply r ∷ []) ∷ [])
+    ++ (when (isLayer r) (worded PropertyType.mode (r .mode ∷ []) ∷ worded PropertyType.offsets (r .dx ∷ r .dy ∷ []) ∷ [])
+    ++ (worded PropertyType.end [] ∷ [])))))
 
 -- a drawable's structure: sides, a layer's type, name, properties, hierarchy pointer, a layer's mask pointer
 unfoldable pub structureBytes : Row → Bool → List ℕ → ℕ → ℕ → List ℕ

@@ -3,8 +3,11 @@ ghost use mathlib.Core.Path.{_≡_};
 ghost use mathlib.Core.Bool.{cond};
 ghost use Prim.Native.Nat.{_+_, _≤_};
 ghost use lib.ListN.{length};
+ghost use Rattle.xcf_numbers.specs.Limit.{nameLimit};
 ghost use Rattle.xcf_store.specs.Put.{Put};
-ghost use Rattle.xcf_structure.specs.Structure.{nameBytes, listBytes, drawableProperties, structureBytes};
+ghost use Rattle.xcf_structure.specs.Structure.{nameBytes, listBytes, drawableProperties, structureBytes, propertiesLimit, structureLimit};
+use xcf_numbers::kind;
+use xcf_numbers::property_type;
 use xcf_property::active_type;
 use xcf_store::put::put_bytes;
 use xcf_store::put::put_when;
@@ -20,7 +23,7 @@ pub fn or_zero(test: bool, n: usize) -> usize
 }
 
 fn name_size(name: &[u8]) -> usize
-    requires { ⌜ length (now name) ≤ 1024 ⌝ }
+    requires { ⌜ length (now name) ≤ nameLimit ⌝ }
     ensures { λ r. ⌜ (r ≡ length (nameBytes (now (name .entry)))) × (r ≤ 1029) ⌝ }
 {
     if name.len() == 0 {
@@ -30,28 +33,28 @@ fn name_size(name: &[u8]) -> usize
 }
 
 fn list_size(row: Row, masked: bool) -> usize
-    ensures { λ r. ⌜ (r ≡ length (listBytes (drawableProperties row masked))) × (r ≤ 88) ⌝ }
+    ensures { λ r. ⌜ (r ≡ length (listBytes (drawableProperties row masked))) × (r ≤ propertiesLimit) ⌝ }
 {
     let selection = or_zero(row.flags / 4 % 2 == 1, 8);
     let active = or_zero(row.flags / 8 % 2 == 1, 8);
     let apply = or_zero(masked, 12);
-    let layer = or_zero(row.kind == 1, 28);
+    let layer = or_zero(row.kind == kind::LAYER, 28);
     selection + (active + (24 + (apply + (layer + 8))))
 }
 
 // The length of a drawable's structure.
 pub fn structure_size(row: Row, masked: bool, name: &[u8]) -> usize
-    requires { ⌜ length (now name) ≤ 1024 ⌝ }
-    ensures { λ r. ⌜ (r ≡ length (structureBytes row masked (now (name .entry)) 0 0)) × (r ≤ 1200) ⌝ }
+    requires { ⌜ length (now name) ≤ nameLimit ⌝ }
+    ensures { λ r. ⌜ (r ≡ length (structureBytes row masked (now (name .entry)) 0 0)) × (r ≤ structureLimit) ⌝ }
 {
-    let form = or_zero(row.kind == 1, 4);
+    let form = or_zero(row.kind == kind::LAYER, 4);
     let named = name_size(name);
     let list = list_size(row, masked);
     8 + form + (named + (list + (4 + form)))
 }
 
 fn put_name(output: &mut [u8], to: usize, name: &[u8]) -> usize
-    requires { ⌜ (length (now name) ≤ 1024) × (to + length (nameBytes (now name)) ≤ length (now output)) ⌝ }
+    requires { ⌜ (length (now name) ≤ nameLimit) × (to + length (nameBytes (now name)) ≤ length (now output)) ⌝ }
     ensures { λ r. ⌜ Put (now (output .entry)) to (nameBytes (now (name .entry))) r (now (output .exit)) ⌝ }
 {
     if name.len() == 0 {
@@ -67,22 +70,51 @@ fn put_list(output: &mut [u8], to: usize, row: Row, masked: bool) -> usize
     requires { ⌜ to + length (listBytes (drawableProperties row masked)) ≤ length (now output) ⌝ }
     ensures { λ r. ⌜ Put (now (output .entry)) to (listBytes (drawableProperties row masked)) r (now (output .exit)) ⌝ }
 {
-    let selection = put_when(output, to, row.flags / 4 % 2 == 1, &[4, 0]);
+    let selection = put_when(
+        output,
+        to,
+        row.flags / 4 % 2 == 1,
+        &[property_type::SELECTION, 0],
+    );
     let active = put_when(
         output,
         selection,
         row.flags / 8 % 2 == 1,
         &[active_type(row.kind), 0],
     );
-    let visible = put_words(output, active, &[6, 4, row.opacity, 8, 4, row.flags % 2]);
-    let apply = put_when(output, visible, masked, &[11, 4, row.flags / 2 % 2]);
+    let visible = put_words(
+        output,
+        active,
+        &[
+            property_type::OPACITY,
+            4,
+            row.opacity,
+            property_type::VISIBLE,
+            4,
+            row.flags % 2,
+        ],
+    );
+    let apply = put_when(
+        output,
+        visible,
+        masked,
+        &[property_type::APPLY, 4, row.flags / 2 % 2],
+    );
     let layer = put_when(
         output,
         apply,
-        row.kind == 1,
-        &[7, 4, row.mode, 15, 8, row.dx, row.dy],
+        row.kind == kind::LAYER,
+        &[
+            property_type::MODE,
+            4,
+            row.mode,
+            property_type::OFFSETS,
+            8,
+            row.dx,
+            row.dy,
+        ],
     );
-    put_words(output, layer, &[0, 0])
+    put_words(output, layer, &[property_type::END, 0])
 }
 
 // A drawable's structure, with the pointers to its hierarchy and its mask.
@@ -95,13 +127,13 @@ pub fn put_structure(
     hierarchy: u32,
     mask: u32,
 ) -> usize
-    requires { ⌜ (length (now name) ≤ 1024) × (to + length (structureBytes row masked (now name) hierarchy mask) ≤ length (now output)) ⌝ }
+    requires { ⌜ (length (now name) ≤ nameLimit) × (to + length (structureBytes row masked (now name) hierarchy mask) ≤ length (now output)) ⌝ }
     ensures { λ r. ⌜ Put (now (output .entry)) to (structureBytes row masked (now (name .entry)) hierarchy mask) r (now (output .exit)) ⌝ }
 {
     let sides = put_words(output, to, &[row.width, row.height]);
-    let form = put_when(output, sides, row.kind == 1, &[row.form]);
+    let form = put_when(output, sides, row.kind == kind::LAYER, &[row.form]);
     let named = put_name(output, form, name);
     let list = put_list(output, named, row, masked);
     let link = put_word(output, list, hierarchy);
-    put_when(output, link, row.kind == 1, &[mask])
+    put_when(output, link, row.kind == kind::LAYER, &[mask])
 }

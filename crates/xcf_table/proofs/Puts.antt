@@ -9,8 +9,9 @@ use borrow.Author.Tests.{le-leb, leb-true}
 use lib.Dec.{leb}
 use lib.ListN.{length}
 use lib.Seq.{paste, length-paste, take-paste, length-take-le}
+use Rattle.xcf_numbers.specs.Limit.{rowSize, tableSize}
 use Rattle.xcf_table.specs.declared.Row.{Row}
-use Rattle.xcf_table.specs.Table.{rowSize, tableSize, rowNumbers, addRow, putRow, clearFrom, rowsIn, tableOf}
+use Rattle.xcf_table.specs.Table.{rowNumbers, addRow, putRow, clearFrom, rowsIn, tableOf}
 
 pub put-adds : (t : List ℕ) (k : ℕ) (r : Row) → rowSize * (k + 1) ≤ length t → rowsIn (k + 1) (putRow t k r) ≡ addRow (rowsIn k t) r
 unfolding addRow putRow

@@ -10,8 +10,9 @@ use borrow.Author.Tests.{le-leb, ltb-true}
 use lib.Dec.{ltb}
 use lib.ListN.{length, getD, List·getD-append}
 use lib.Seq.{getD-append-seam, getD-append-add}
+use Rattle.xcf_numbers.specs.Limit.{rowSize}
 use Rattle.xcf_table.specs.declared.Row.{Row}
-use Rattle.xcf_table.specs.Table.{rowSize, rowNumbers, rowIn, rowAt}
+use Rattle.xcf_table.specs.Table.{rowNumbers, rowIn, rowAt}
 
 pub row-added : (a : List ℕ) (r : Row) → rowIn (a ++ rowNumbers r) (length a) ≡ r
 row-added a r = simp (getD-append-add, getD-append-seam)

@@ -4,13 +4,14 @@ use mathlib.Core.List.{List, [], _∷_}
 use mathlib.Core.Bool.{Bool, _&&_}
 use lib.ListN.{getD}
 use lib.Dec.{leb, eqb}
+use Rattle.xcf_numbers.specs.Limit.{sideLimit, typeLimit}
 
 unfoldable pub sideOk : ℕ → Bool
-sideOk n = leb 1 n && leb n 16384
+sideOk n = leb 1 n && leb n sideLimit
 
 -- types 0 to 5: half the type is the base type
 unfoldable pub typeOk : ℕ → ℕ → Bool
-typeOk base t = leb t 5 && eqb (t / 2) base
+typeOk base t = leb t typeLimit && eqb (t / 2) base
 
 -- bytes per pixel by type
 abbrev pub depths : List ℕ

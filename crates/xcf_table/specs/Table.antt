@@ -5,13 +5,8 @@ use mathlib.Core.Bool.{cond}
 use lib.ListN.{length, getD, take, replicate}
 use lib.Seq.{paste}
 use lib.Dec.{leb}
+use Rattle.xcf_numbers.specs.Limit.{rowSize, tableSize}
 use Rattle.xcf_table.specs.declared.Row.{Row}
-
-abbrev pub rowSize : ℕ
-rowSize = 16
-
-abbrev pub tableSize : ℕ
-tableSize = 128 * rowSize
 
 -- a row's numbers, fields 0 to 15
 abbrev pub rowNumbers : Row → List ℕ
@@ -74,7 +69,3 @@ rowsIn k table = record { count = k; numbers = take (rowSize * k) table }
 -- the table of some rows: unused rows are zero
 unfoldable pub tableOf : Rows → List ℕ
 tableOf rows = rows .numbers ++ replicate (tableSize - length (rows .numbers)) 0
-
--- the most bytes of a file, so that every place in it fits a row
-abbrev pub fileLimit : ℕ
-fileLimit = 1073741824

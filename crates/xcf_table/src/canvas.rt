@@ -1,6 +1,8 @@
 // The canvas, and what a drawable's sides and type may be.
 ghost use mathlib.Core.Path.{_≡_};
 ghost use Rattle.xcf_table.specs.Canvas.{sideOk, typeOk, depthOf};
+use xcf_numbers::limit::SIDE_LIMIT;
+use xcf_numbers::limit::TYPE_LIMIT;
 
 pub struct Canvas {
     pub width: u32,
@@ -11,13 +13,17 @@ pub struct Canvas {
 pub fn side_ok(n: u32) -> bool
     ensures { λ r. ⌜ r ≡ sideOk n ⌝ }
 {
-    if 1 <= n { n <= 16384 } else { false }
+    if 1 <= n { n <= SIDE_LIMIT } else { false }
 }
 
 pub fn type_ok(base: u32, t: u32) -> bool
     ensures { λ r. ⌜ r ≡ typeOk base t ⌝ }
 {
-    if t <= 5 { t / 2 == base } else { false }
+    if t <= TYPE_LIMIT {
+        t / 2 == base
+    } else {
+        false
+    }
 }
 
 const DEPTHS: [u32; 6] = [3, 4, 1, 2, 1, 2];

@@ -1,18 +1,13 @@
-// The row table: 128 rows of 16 numbers in a lent slice; and the most bytes of a file, which its places are below.
+// The row table: 128 rows of 16 numbers in a lent slice.
 pub mod canvas;
 
 ghost use mathlib.Core.Path.{_≡_};
 ghost use Prim.Native.Nat.{_+_, _≤_};
 ghost use lib.ListN.{length};
 ghost use lib.Seq.{paste};
-ghost use Rattle.xcf_table.specs.Table.{rowSize, rowNumbers, putRow, rowIn, unusedRow, rowAt, clearFrom};
-
-pub const ROW_SIZE: usize = 16;
-
-pub const TABLE_SIZE: usize = 2048;
-
-// The most bytes of a file.
-pub const FILE_LIMIT: usize = 1073741824;
+ghost use Rattle.xcf_numbers.specs.Limit.{rowSize};
+ghost use Rattle.xcf_table.specs.Table.{rowNumbers, putRow, rowIn, unusedRow, rowAt, clearFrom};
+use xcf_numbers::limit::ROW_SIZE;
 
 // A drawable's row, fields 0 to 15: form is its type, name and size are the place and the number of its name's bytes,
 // list and tiles the places of its properties and of its first tile pointer, and count the number of its tiles.

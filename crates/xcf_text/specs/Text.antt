@@ -26,6 +26,13 @@ spaced n = space ++ decimal n
 abbrev pub labelled : List ℕ → ℕ → List ℕ
 labelled label n = label ++ spaced n
 
+-- room for a number of 64 bits, alone and behind a space
+abbrev pub decimalSize : ℕ
+decimalSize = 20
+
+abbrev pub spacedSize : ℕ
+spacedSize = decimalSize + 1
+
 -- room for any line
 abbrev pub lineSize : ℕ
 lineSize = 400

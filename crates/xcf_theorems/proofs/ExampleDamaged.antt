@@ -10,13 +10,15 @@ use borrow.Author.Tests.{eqb-true, eqb-false}
 use lib.Dec.{eqb}
 use lib.ListN.{length, getD, replicate}
 use lib.Seq.{getD-set-other}
+use Rattle.xcf_numbers.specs.Limit.{rowSize, tableSize}
+use Rattle.xcf_numbers.specs.Mark
 use Rattle.xcf_walk.specs.Walk.{got, run, bytes, here, must, fileLength, jump, loop, turns}
 use Rattle.xcf_store.specs.Word.{bigEndian, wordOf}
 use Rattle.xcf_walk.specs.Fields.{number, word, string}
 use Rattle.xcf_property.specs.Property.{lengthOk, contentOf, isColourMap, isFloating, lacksMap, allowed, activeType, put}
 use Rattle.xcf_walk.specs.Property.{payload, content, property, propertyTurn, properties}
 use Rattle.xcf_walk_laws.proofs.Passes.{passes, not-passed}
-use Rattle.xcf_table.specs.Table.{rowSize, tableSize, addRow, rowAt, tableOf}
+use Rattle.xcf_table.specs.Table.{addRow, rowAt, tableOf}
 use Rattle.xcf_operation.specs.Operation.{headOf, headAt, operationOf, operationAt}
 use Rattle.xcf_stream.specs.Stream.{streamFrom, streamWithin, streamAt}
 use Rattle.xcf_stream.specs.Streams.{streamsAt}
@@ -107,7 +109,7 @@ unfolding marksOf nonzero rowDecoding pointerAt windowEnd windowLength window ti
 good-shown = refl
 
 marked-shown : rowDecoding pointerSize damagedFile (rowOf given 0) 1
-    ≡ record { answer = record { number = 0; place = 0; marked = 1 }; pixels = replicate 64 0 ++ (7 ∷ []); marks = 20 ∷ 0 ∷ [] }
+    ≡ record { answer = record { number = 0; place = 0; marked = 1 }; pixels = replicate 64 0 ++ (7 ∷ []); marks = Mark.short ∷ 0 ∷ [] }
 unfolding marksOf nonzero rowDecoding pointerAt windowEnd windowLength window tile tabulate pixelsOf rowAt bigEndian headOf headAt operationOf operationAt streamFrom streamWithin streamAt streamsAt pixel interleave encodedTile tileIn tileOf
 marked-shown = refl
 

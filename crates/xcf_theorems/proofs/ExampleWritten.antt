@@ -4,6 +4,7 @@ use mathlib.Core.Path.{_≡_, refl}
 use mathlib.Core.List.{[], _∷_, flatMap, flatten}
 use borrow.Author.Tests.{le-leb}
 use lib.ListN.{length}
+use Rattle.xcf_numbers.specs.Refusal
 use Rattle.xcf_property.specs.Property.{activeType}
 use Rattle.xcf_table.specs.Table.{rowAt}
 use Rattle.xcf_segment.specs.Segment.{leading, equalBytes, copiedBytes, firstSegment, segmentsWithin, segments, segmentBytes, encodeStream}
@@ -25,7 +26,7 @@ use Rattle.xcf_theorems.specs.Statements.{ExampleFileIsWritten}
 abbrev canvas : Canvas
 canvas = record { width = 1; height = 1; base = 1 }
 
-accepted : inputRefusal canvas exampleTable 1 1 ≡ answered 0 0 0
+accepted : inputRefusal canvas exampleTable 1 1 ≡ answered Refusal.accepted 0 0
 unfolding rowAt sideOk typeOk depthOf before rowBefore seenAt masked drawableOk layerOk layerFollows channelOk maskFollows channelFollows allZero usableRow usable badFrom badRow usedFrom pixelsSize rowsRefusal inputRefusal
 accepted = refl
 

@@ -8,8 +8,8 @@ use mathlib.Core.Bool.{true, or-true}
 use lib.Dec.{leb, eqb}
 use lib.ListN.{length}
 use native.Mathlib.Omega.{arith}
+use Rattle.xcf_numbers.specs.Limit.{fileLimit, tableSize}
 use Rattle.xcf_walk.specs.Walk.{Outcome, got, refused, run}
-use Rattle.xcf_table.specs.Table.{tableSize, fileLimit}
 use Rattle.xcf_laws.proofs.Cases.{by-cases}
 use Rattle.xcf_store.specs.Pointer.{pointerSize}
 use Rattle.xcf_read.specs.Image.{Image, image}

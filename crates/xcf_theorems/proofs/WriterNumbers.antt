@@ -6,11 +6,12 @@ use mathlib.Core.List.{List}
 use mathlib.Core.Bool.{Bool, true, false, cond, _&&_}
 use lib.ListN.{length}
 use lib.Dec.{leb, eqb}
-use Rattle.xcf_table.specs.Table.{tableSize, fileLimit}
+use Rattle.xcf_numbers.specs.Limit.{fileLimit, tableRows, tableSize}
+use Rattle.xcf_numbers.specs.Refusal
 use Rattle.xcf_table.specs.declared.canvas.Canvas.{Canvas}
 use Rattle.xcf_table.specs.Canvas.{sideOk}
 use Rattle.xcf_read.specs.Answer.{listed}
-use Rattle.xcf_usable.specs.Usable.{tableRows, badRow}
+use Rattle.xcf_usable.specs.Usable.{badRow}
 use Rattle.xcf_write.specs.declared.WriteAnswer.{WriteAnswer}
 use Rattle.xcf_body.specs.Rows.{pixelsSize, usedRows}
 use Rattle.xcf_write.specs.Answer.{answered, fileOf, rowsRefusal, inputRefusal, writeAnswer, writing, writerNumbers}
@@ -27,7 +28,7 @@ rows-listed : (c : Canvas) (table : List ℕ) (names pixels : ℕ) → Listed (r
 unfolding listed rowsRefusal
 rows-listed c table names pixels =
     either (eqb (badRow c names table) tableRows) _ _
-    (either (eqb pixels (pixelsSize table (usedRows table) 0)) (answered 0 0 0) (answered 11 0 0) refl refl) refl
+    (either (eqb pixels (pixelsSize table (usedRows table) 0)) (answered Refusal.accepted 0 0) (answered Refusal.wrongBuffer 0 0) refl refl) refl
 
 input-listed : (c : Canvas) (table : List ℕ) (names pixels : ℕ) → Listed (inputRefusal c table names pixels)
 unfolding listed inputRefusal
@@ -43,5 +44,5 @@ unfolding listed writeAnswer writing
 writer-listed c table names pixels output =
     let size = length (fileOf c table names pixels) in
     either (eqb (inputRefusal c table (length names) (length pixels) .number) 0) _ _
-    (either (leb size (length output) && leb size fileLimit) (answered 0 0 size) (answered 18 0 0) refl refl)
+    (either (leb size (length output) && leb size fileLimit) (answered Refusal.accepted 0 size) (answered Refusal.noRoom 0 0) refl refl)
     (input-listed c table (length names) (length pixels))

@@ -4,6 +4,7 @@ use Prim.Native.Nat.{ℕ}
 use mathlib.Core.Path.{_≡_}
 use mathlib.Core.List.{List, [], _∷_, _++_}
 use lib.ListN.{take, set, replicate}
+use Rattle.xcf_numbers.specs.Mark
 use Rattle.xcf_store.specs.Pointer.{pointerSize}
 use Rattle.xcf_read.specs.Answer.{reading}
 use Rattle.xcf_decode.specs.Answer.{decoding}
@@ -31,4 +32,4 @@ pub record DamagedExample (lent pixels marks : List ℕ) : Type 0 where
   pub good : decoding pointerSize wideFile (reading wideFile lent .table) 0 (reading wideFile lent .answer .compression) pixels marks
       ≡ record { answer = record { number = 0; place = 0; marked = 0 }; pixels = replicate 64 255 ++ (7 ∷ []); marks = 0 ∷ 0 ∷ [] }
   pub marked : decoding pointerSize damagedFile (reading damagedFile lent .table) 0 (reading damagedFile lent .answer .compression) pixels marks
-      ≡ record { answer = record { number = 0; place = 0; marked = 1 }; pixels = replicate 64 0 ++ (7 ∷ []); marks = 20 ∷ 0 ∷ [] }
+      ≡ record { answer = record { number = 0; place = 0; marked = 1 }; pixels = replicate 64 0 ++ (7 ∷ []); marks = Mark.short ∷ 0 ∷ [] }

@@ -2,7 +2,7 @@
 use Prim.Native.Nat.{ℕ, _-_}
 use mathlib.Core.List.{List, [], _∷_, _++_}
 use lib.ListN.{replicate}
-use Rattle.xcf_table.specs.Table.{rowSize, tableSize}
+use Rattle.xcf_numbers.specs.Limit.{rowSize, tableSize}
 
 -- line by line: the first bytes; canvas and base type; the image's list; its pointers; the channel's sides and name, its list,
 -- its hierarchy pointer; hierarchy; level; tile

@@ -3,6 +3,7 @@ use mathlib.Core.Path.{_≡_}
 use mathlib.Core.List.{List, [], _∷_}
 use Prim.Native.Nat.{ℕ, _-_}
 use lib.ListN.{replicate}
+use Rattle.xcf_numbers.specs.Mark
 use Rattle.xcf_stream.specs.Stream.{Stream, streamAt}
 use Rattle.xcf_tile.specs.Tile.{Tile, tileOf}
 use Rattle.xcf_grid.specs.Grid.{tileCount, tileWidth, tileHeight}
@@ -46,8 +47,8 @@ table =
     ∷ stream (0x7f ∷ 0x00 ∷ 0x80 ∷ 0x05 ∷ []) 128 (good 4 1 (replicate 128 0x05))
     ∷ writing (replicate 128 0x05) (0x7f ∷ 0x00 ∷ 0x80 ∷ 0x05 ∷ [])
     ∷ stream (0x80 ∷ 0x00 ∷ 0x00 ∷ 0xff ∷ 0x07 ∷ []) 1 (good 5 2 (0x07 ∷ []))
-    ∷ stream (0x02 ∷ 0x09 ∷ []) 2 (marked 21)
-    ∷ stream (0xfe ∷ 0x01 ∷ []) 2 (marked 20)
+    ∷ stream (0x02 ∷ 0x09 ∷ []) 2 (marked Mark.overrun)
+    ∷ stream (0xfe ∷ 0x01 ∷ []) 2 (marked Mark.short)
     ∷ tile (0x01 ∷ 0x10 ∷ 0xfe ∷ 0x20 ∷ 0x30 ∷ []) 2 1 2
     (record { mark = 0; consumed = 5; operations = 2; pixels = 0x10 ∷ 0x20 ∷ 0x10 ∷ 0x30 ∷ [] })
     ∷ writing (0xaa ∷ 0xaa ∷ 0xbb ∷ []) (0xfd ∷ 0xaa ∷ 0xaa ∷ 0xbb ∷ [])

@@ -5,15 +5,17 @@ use mathlib.Core.Logic.{_⊎_}
 use mathlib.Core.List.{List, [], _∷_, _++_}
 use Prim.Native.Nat.{ℕ, _+_, _-_, _*_, _/_, _≤_, _<_}
 use lib.ListN.{length, getD, take, drop, replicate}
+use Rattle.xcf_numbers.specs.Limit.{fileLimit, depthLimit, rowSize, tableSize, tileSide, encodedSize, windowLimit}
+use Rattle.xcf_numbers.specs.Mark
 use Rattle.xcf_stream.specs.Stream.{streamAt}
 use Rattle.xcf_stream.specs.Streams.{streamsAt}
-use Rattle.xcf_tile.specs.Tile.{tileOf, windowLimit}
+use Rattle.xcf_tile.specs.Tile.{tileOf}
 use Rattle.xcf_tile.specs.declared.TileAnswer.{TileAnswer}
 use Rattle.xcf_tile.specs.Answer.{Decoded}
 use Rattle.xcf_segment.specs.Segment.{segments, encodeStream}
 use Rattle.xcf_encode.specs.Tile.{planes, operationsOf, encodeTile}
 use Rattle.xcf_walk.specs.Walk.{Walk, got, refused, run, PassedOver}
-use Rattle.xcf_table.specs.Table.{rowSize, tableSize, rowAt, fileLimit}
+use Rattle.xcf_table.specs.Table.{rowAt}
 use Rattle.xcf_store.specs.Pointer.{pointerSize}
 use Rattle.xcf_read.specs.Image.{Image, image, structureByte}
 use Rattle.xcf_read.specs.Answer.{refusals, listed, reading, rowOf}
@@ -156,7 +158,7 @@ CountIsTheDecoders =
 abbrev pub MarksAreListed : Type 0
 MarksAreListed =
     (window : List ℕ) (w h depth compression : ℕ) →
-    let m = tileOf window w h depth compression .mark in (m ≡ 0) ⊎ ((m ≡ 20) ⊎ (m ≡ 21))
+    let m = tileOf window w h depth compression .mark in (m ≡ 0) ⊎ ((m ≡ Mark.short) ⊎ (m ≡ Mark.overrun))
 
 -- A good tile depends only on the bytes it consumed: another window that has them first gives the same tile.
 abbrev pub ConsumedBytesDecide : Type 0
@@ -207,7 +209,7 @@ StreamReadsBack =
 -- The same of a tile, of any sides and depth that a tile can have.
 abbrev pub TileReadsBack : Type 0
 TileReadsBack =
-    (w h depth : ℕ) (pixels rest : List ℕ) → w ≤ 64 → h ≤ 64 → depth ≤ 4 → length pixels ≡ w * h * depth →
+    (w h depth : ℕ) (pixels rest : List ℕ) → w ≤ tileSide → h ≤ tileSide → depth ≤ depthLimit → length pixels ≡ w * h * depth →
     tileOf (encodeTile (w * h) depth pixels ++ rest) w h depth 1
     ≡ record {
       mark = 0;
@@ -219,5 +221,5 @@ TileReadsBack =
 -- An encoded tile takes at most 16,644 bytes, so it fits its window.
 abbrev pub EncodedTileFits : Type 0
 EncodedTileFits =
-    (w h depth : ℕ) (pixels : List ℕ) → w ≤ 64 → h ≤ 64 → depth ≤ 4 →
-    let size = length (encodeTile (w * h) depth pixels) in (size ≤ 16644) × (size < windowLimit)
+    (w h depth : ℕ) (pixels : List ℕ) → w ≤ tileSide → h ≤ tileSide → depth ≤ depthLimit →
+    let size = length (encodeTile (w * h) depth pixels) in (size ≤ encodedSize) × (size < windowLimit)

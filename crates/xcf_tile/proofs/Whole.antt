@@ -8,6 +8,7 @@ use native.Mathlib.Nat.{mul-comm}
 use borrow.Author.Tests.{le-leb, lt-leb, eq-eqb, ne-eqb}
 use lib.ListN.{length, take, drop, replicate}
 use lib.Seq.{length-take-le, take-length, drop-length}
+use Rattle.xcf_numbers.specs.Mark
 use Rattle.xcf_tile.specs.Tile.{plainTile, encodedTile}
 use Rattle.xcf_stream.specs.Streams.{streamsAt}
 use Rattle.xcf_stream.specs.declared.StreamEnd.{StreamEnd}
@@ -20,7 +21,7 @@ use Rattle.xcf_tile.proofs.Interleaved.{scatter-all}
 pub copied : (ws d : List ℕ) → length d ≤ length ws → take (length (take (length d) ws)) (take (length d) ws) ++ drop (length (take (length d) ws)) d ≡ take (length d) ws
 copied ws d h = rw (take-length, length-take-le (length d) ws h, drop-length, append-nil)
 
-pub plain-short : (ws : List ℕ) (n depth : ℕ) → length ws < n * depth → Gives (plainTile ws n depth) (record { mark = 20; at = 0; operations = 0 }) (replicate (n * depth) 0)
+pub plain-short : (ws : List ℕ) (n depth : ℕ) → length ws < n * depth → Gives (plainTile ws n depth) (record { mark = Mark.short; at = 0; operations = 0 }) (replicate (n * depth) 0)
 unfolding plainTile
 plain-short ws n depth h = simp (lt-leb _ _ h) (record { mark = refl; consumed = refl; operations = refl; pixels = refl })
 

@@ -5,18 +5,20 @@ use mathlib.Core.List.{List}
 use mathlib.Core.Bool.{Bool, cond, _&&_}
 use lib.ListN.{length}
 use lib.Dec.{leb, eqb}
+use Rattle.xcf_numbers.specs.Limit.{depthLimit, tileSide}
+use Rattle.xcf_numbers.specs.Refusal
 use Rattle.xcf_tile.specs.declared.TileAnswer.{TileAnswer}
 use Rattle.xcf_tile.specs.Tile.{Tile, tileOf}
 use Rattle.xcf_range.specs.Range.{within}
 
 -- sides 1 to 64 and depth 1 to 4
 unfoldable pub usableTile : ℕ → ℕ → ℕ → Bool
-usableTile w h depth = within 1 64 w && within 1 64 h && within 1 4 depth
+usableTile w h depth = within 1 tileSide w && within 1 tileSide h && within 1 depthLimit depth
 
 -- 14 unless the tile is usable and compression 0 or 1; then 11 unless the buffer has the tile's length; else 0
 unfoldable pub decodeRefusal : ℕ → ℕ → ℕ → ℕ → ℕ → ℕ
 decodeRefusal w h depth compression len =
-    cond (usableTile w h depth && leb compression 1) (cond (eqb len (w * h * depth)) 0 11) 14
+    cond (usableTile w h depth && leb compression 1) (cond (eqb len (w * h * depth)) Refusal.accepted Refusal.wrongBuffer) Refusal.unusable
 
 -- a refusal's other fields are 0
 unfoldable pub decodeAnswer : ℕ → Tile → TileAnswer

@@ -2,6 +2,7 @@
 use mathlib.Core.Path.{_≡_}
 use mathlib.Core.List.{List}
 use Prim.Native.Nat.{ℕ, _*_, _≤_}
+use Rattle.xcf_numbers.specs.Limit.{depthLimit, tileSide}
 use Rattle.xcf_stream.specs.declared.StreamEnd.{StreamEnd}
 use Rattle.xcf_tile.specs.Tile.{Tile}
 
@@ -14,8 +15,8 @@ pub record Gives (t : Tile) (r : StreamEnd) (new : List ℕ) : Type 0 where
 
 -- sizes that are not refused
 pub record Usable (w h depth compression len : ℕ) : Type 0 where
-  pub wide : w ≤ 64
-  pub high : h ≤ 64
-  pub deep : depth ≤ 4
+  pub wide : w ≤ tileSide
+  pub high : h ≤ tileSide
+  pub deep : depth ≤ depthLimit
   pub way : compression ≤ 1
   pub exact : len ≡ w * h * depth

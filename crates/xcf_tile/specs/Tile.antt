@@ -4,6 +4,8 @@ use mathlib.Core.List.{List, [], _∷_, _++_}
 use mathlib.Core.Bool.{cond}
 use lib.ListN.{length, getD, take, replicate}
 use lib.Dec.{leb, eqb}
+use Rattle.xcf_numbers.specs.Limit.{windowLimit}
+use Rattle.xcf_numbers.specs.Mark
 use Rattle.xcf_stream.specs.Streams.{streamsAt}
 
 -- pixel i: byte i of each plane
@@ -26,8 +28,8 @@ pub record Tile : Type 0 where
 -- n pixels of `depth` bytes each
 unfoldable pub plainTile : List ℕ → ℕ → ℕ → Tile
 plainTile ws n depth =
-    cond (leb (n * depth) (length ws)) (record { mark = 0; consumed = n * depth; operations = 0; pixels = take (n * depth) ws })
-    (record { mark = 20; consumed = 0; operations = 0; pixels = replicate (n * depth) 0 })
+    cond (leb (n * depth) (length ws)) (record { mark = Mark.good; consumed = n * depth; operations = 0; pixels = take (n * depth) ws })
+    (record { mark = Mark.short; consumed = 0; operations = 0; pixels = replicate (n * depth) 0 })
 
 unfoldable pub encodedTile : List ℕ → ℕ → ℕ → Tile
 encodedTile ws n depth =
@@ -42,10 +44,6 @@ encodedTile ws n depth =
 -- compression 0 is plain, 1 encoded; a call with any other is refused
 unfoldable pub tileIn : List ℕ → ℕ → ℕ → ℕ → Tile
 tileIn ws n depth compression = cond (eqb compression 0) (plainTile ws n depth) (encodedTile ws n depth)
-
--- a window is cut at this many bytes
-abbrev pub windowLimit : ℕ
-windowLimit = 24576
 
 -- the tile of w by h pixels in a window
 unfoldable pub tileOf : List ℕ → ℕ → ℕ → ℕ → ℕ → Tile

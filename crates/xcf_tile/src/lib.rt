@@ -1,10 +1,16 @@
 // One tile of an XCF drawable, decoded from its window.
 ghost use mathlib.Core.Path.{_≡_};
 ghost use lib.ListN.{length, take};
-ghost use Rattle.xcf_tile.specs.Tile.{plainTile, encodedTile, tileIn, windowLimit};
+ghost use Rattle.xcf_numbers.specs.Limit.{windowLimit};
+ghost use Rattle.xcf_tile.specs.Tile.{plainTile, encodedTile, tileIn};
 ghost use Rattle.xcf_tile.specs.Answer.{usableTile, decodeRefusal, Decoded};
 ghost use Rattle.xcf_stream.specs.Parts.{Sized};
 ghost use Rattle.xcf_tile.specs.Parts.{Gives, Usable};
+use xcf_numbers::limit::DEPTH_LIMIT;
+use xcf_numbers::limit::TILE_SIDE;
+use xcf_numbers::limit::WINDOW_LIMIT;
+use xcf_numbers::mark;
+use xcf_numbers::refusal;
 use xcf_range::outside;
 use xcf_stream::StreamEnd;
 use xcf_stream::ended;
@@ -38,10 +44,10 @@ fn decode_plain(window: &[u8], n: usize, depth: usize, pixels: &mut [u8]) -> Str
     let size = pixels.len();
     if window.len() < size {
         clear(pixels);
-        return ended(20, 0, 0);
+        return ended(mark::SHORT, 0, 0);
     }
     bytes::copy(&window[..size], pixels);
-    ended(0, size, 0)
+    ended(mark::GOOD, size, 0)
 }
 
 fn decode(window: &[u8], n: usize, depth: usize, compression: u32, pixels: &mut [u8]) -> StreamEnd
@@ -59,13 +65,13 @@ fn decode(window: &[u8], n: usize, depth: usize, compression: u32, pixels: &mut 
 pub fn usable_tile(width: u32, height: u32, depth: u32) -> bool
     ensures { λ r. ⌜ r ≡ usableTile width height depth ⌝ }
 {
-    if outside(1, 64, width) {
+    if outside(1, TILE_SIDE, width) {
         return false;
     }
-    if outside(1, 64, height) {
+    if outside(1, TILE_SIDE, height) {
         return false;
     }
-    if outside(1, 4, depth) {
+    if outside(1, DEPTH_LIMIT, depth) {
         return false;
     }
     true
@@ -77,25 +83,25 @@ fn refusal(width: u32, height: u32, depth: u32, compression: u32, length: usize)
 {
     if usable_tile(width, height, depth) {
         if 1 < compression {
-            return 14;
+            return refusal::UNUSABLE;
         }
         let size = (width * height * depth) as usize;
         if length == size {
-            return 0;
+            return refusal::ACCEPTED;
         }
-        return 11;
+        return refusal::WRONG_BUFFER;
     }
-    14
+    refusal::UNUSABLE
 }
 
 // The bytes of a window that count.
 fn cut(window: &[u8]) -> &[u8]
     ensures { λ r. ⌜ now r ≡ take windowLimit (now (window .entry)) ⌝ }
 {
-    if window.len() <= 24576 {
+    if window.len() <= WINDOW_LIMIT {
         return window;
     }
-    &window[..24576]
+    &window[..WINDOW_LIMIT]
 }
 
 // The tile of `width` by `height` pixels of `depth` bytes each in a window: plain for compression 0, encoded for 1.

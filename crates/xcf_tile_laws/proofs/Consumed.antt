@@ -13,11 +13,12 @@ use borrow.Author.Tests.{ltb-true, ltb-false, lt-leb, le-ltb, eqb-true, eqb-fals
 use lib.ListN.{length, getD, take, drop, replicate, length-take}
 use lib.Seq.{getD-take, take-take, take-nil}
 use lib.Dec.{ltb, leb, eqb}
+use Rattle.xcf_numbers.specs.Limit.{windowLimit}
 use Rattle.xcf_operation.specs.Operation.{Head, runHead, copyHead, cut, headAt, headOf, Operation, gives, short, over, unlessFails, operationAt, operationOf}
 use Rattle.xcf_operation.specs.Parts.{headFor}
 use Rattle.xcf_stream.specs.Stream.{Stream, adds, streamFrom, streamWithin, streamAt}
 use Rattle.xcf_stream.specs.Streams.{Streams, streamsAt}
-use Rattle.xcf_tile.specs.Tile.{Tile, plainTile, encodedTile, tileIn, windowLimit, tileOf}
+use Rattle.xcf_tile.specs.Tile.{Tile, plainTile, encodedTile, tileIn, tileOf}
 use Rattle.xcf_laws.proofs.Cases.{by-cases}
 use Rattle.xcf_stream.proofs.StreamLaws.{Sound, sound, stream-done, stream-op}
 

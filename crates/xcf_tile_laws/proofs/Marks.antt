@@ -6,15 +6,17 @@ use mathlib.Core.List.{List}
 use mathlib.Core.Logic.{_⊎_, inl, inr}
 use lib.ListN.{length, take}
 use lib.Dec.{ltb, leb, eqb}
+use Rattle.xcf_numbers.specs.Limit.{windowLimit}
+use Rattle.xcf_numbers.specs.Mark
 use Rattle.xcf_operation.specs.Operation.{Operation, gives, short, over, operationAt}
 use Rattle.xcf_stream.specs.Stream.{Stream, streamFrom, streamWithin, streamAt}
 use Rattle.xcf_stream.specs.Streams.{Streams, streamsAt}
-use Rattle.xcf_tile.specs.Tile.{Tile, plainTile, encodedTile, tileIn, windowLimit, tileOf}
+use Rattle.xcf_tile.specs.Tile.{Tile, plainTile, encodedTile, tileIn, tileOf}
 use Rattle.xcf_laws.proofs.Cases.{by-cases}
 
 -- good, or one of the two faults
 abbrev pub Listed : ℕ → Type 0
-Listed m = (m ≡ 0) ⊎ ((m ≡ 20) ⊎ (m ≡ 21))
+Listed m = (m ≡ 0) ⊎ ((m ≡ Mark.short) ⊎ (m ≡ Mark.overrun))
 
 -- a stream has the mark of the operation that ends it
 from-listed : (rest : ℕ → ℕ → Stream) (at left : ℕ) (o : Operation) → ((n l : ℕ) → Listed (rest n l .mark)) → Listed (streamFrom rest at left o .mark)

@@ -9,8 +9,9 @@ use borrow.Author.Tests.{leb-true, eqb-true, eq-eqb, ne-eqb}
 use lib.ListN.{length, getD, take, replicate, length-replicate}
 use lib.Seq.{length-take-le}
 use lib.Dec.{leb, eqb}
+use Rattle.xcf_numbers.specs.Limit.{windowLimit}
 use Rattle.xcf_stream.specs.Streams.{streamsAt}
-use Rattle.xcf_tile.specs.Tile.{Tile, plainTile, encodedTile, tileIn, windowLimit, tileOf}
+use Rattle.xcf_tile.specs.Tile.{Tile, plainTile, encodedTile, tileIn, tileOf}
 use Rattle.xcf_laws.proofs.Cases.{by-cases}
 use Rattle.xcf_tile.proofs.Lengths.{streams-whole}
 use Rattle.xcf_tile.proofs.Interleaved.{interleave-length, interleave-at}

@@ -6,8 +6,9 @@ use mathlib.Core.List.{List}
 use mathlib.Core.Bool.{Bool, true, false, cond}
 use native.Mathlib.Numerals.{add-one}
 use native.Mathlib.Omega.{arith}
+use Rattle.xcf_numbers.specs.Limit.{tableRows}
 use Rattle.xcf_table.specs.declared.canvas.Canvas.{Canvas}
-use Rattle.xcf_usable.specs.Usable.{tableRows, usable, badFrom, badRow}
+use Rattle.xcf_usable.specs.Usable.{usable, badFrom, badRow}
 use Rattle.xcf_usable.proofs.BadLoop.{bad-next}
 
 module _ (c : Canvas) (names : ℕ) (table : List ℕ) where

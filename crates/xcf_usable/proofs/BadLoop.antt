@@ -6,10 +6,11 @@ use mathlib.Core.Path.{_≡_, refl, sym, _∙_}
 use mathlib.Core.List.{List}
 use mathlib.Core.Bool.{Bool, true, false, cond}
 use native.Mathlib.Omega.{arith}
+use Rattle.xcf_numbers.specs.Limit.{tableRows}
 use Rattle.xcf_table.specs.Table.{rowAt}
 use Rattle.xcf_table.specs.declared.canvas.Canvas.{Canvas}
 use Rattle.xcf_usable.specs.declared.seen.Seen.{Seen}
-use Rattle.xcf_usable.specs.Usable.{tableRows, seenAt, masked, usableRow, usable, badFrom, badRow}
+use Rattle.xcf_usable.specs.Usable.{seenAt, masked, usableRow, usable, badFrom, badRow}
 
 pub bad-next : (c : Canvas) (names : ℕ) (table : List ℕ) (k : ℕ) → k < tableRows
     → badFrom c names table (tableRows - k) k ≡ cond (usable c names table k) (badFrom c names table (tableRows - (k + 1)) (k + 1)) k

@@ -7,6 +7,8 @@ use mathlib.Core.Bool.{Bool, true, false, _||_}
 use native.Mathlib.Omega.{arith}
 use borrow.Author.Tests.{ltb-true, leb-true, eqb-true, eq-eqb, ne-eqb}
 use lib.Dec.{leb, ltb, eqb}
+use Rattle.xcf_numbers.specs.Limit.{sideLimit, depthLimit, writtenTypeLimit, fullOpacity, modeLimit, layerLimit, channelLimit, nameLimit}
+use Rattle.xcf_numbers.specs.Kind
 use Rattle.xcf_table.specs.declared.Row.{Row}
 use Rattle.xcf_table.specs.Table.{rowNumbers, rowAt}
 use Rattle.xcf_grid.specs.Grid.{tileCount}
@@ -19,23 +21,23 @@ use Rattle.xcf_usable.proofs.Each.{each}
 
 -- what every used row has
 pub record DrawableFacts (names : ℕ) (r : Row) : Type 0 where
-  pub wide : (1 ≤ r .width) × (r .width ≤ 16384)
-  pub high : (1 ≤ r .height) × (r .height ≤ 16384)
+  pub wide : (1 ≤ r .width) × (r .width ≤ sideLimit)
+  pub high : (1 ≤ r .height) × (r .height ≤ sideLimit)
   pub count : r .count ≡ tileCount (r .width) (r .height)
-  pub opaque : r .opacity ≤ 255
-  pub short : r .size ≤ 1024
+  pub opaque : r .opacity ≤ fullOpacity
+  pub short : r .size ≤ nameLimit
   pub named : r .name + r .size ≤ names
   pub list : r .list ≡ 0
   pub tiles : r .tiles ≡ 0
-  pub deep : (1 ≤ r .depth) × (r .depth ≤ 4)
+  pub deep : (1 ≤ r .depth) × (r .depth ≤ depthLimit)
 
 -- a layer's numbers
 pub record LayerFacts (c : Canvas) (k : ℕ) (r : Row) (hasMask : Bool) : Type 0 where
-  pub kind : r .kind ≡ 1
+  pub kind : r .kind ≡ Kind.layer
   pub type : typeOk (c .base) (r .form) ≡ true
-  pub form : r .form ≤ 3
+  pub form : r .form ≤ writtenTypeLimit
   pub depth : r .depth ≡ depthOf (r .form)
-  pub mode : r .mode ≤ 21
+  pub mode : r .mode ≤ modeLimit
   pub owner : r .owner ≡ k
   pub flags : r .flags ≡ visible r + 2 * apply r + 8 * active r
   pub applied : hasMask ≡ false → apply r ≡ 0
@@ -49,8 +51,8 @@ pub record ChannelFacts (r : Row) : Type 0 where
 
 -- a mask behind its layer
 pub record MaskFacts (k : ℕ) (o r : Row) : Type 0 where
-  pub kind : r .kind ≡ 2
-  pub layer : o .kind ≡ 1
+  pub kind : r .kind ≡ Kind.mask
+  pub layer : o .kind ≡ Kind.layer
   pub width : r .width ≡ o .width
   pub height : r .height ≡ o .height
   pub dx : r .dx ≡ o .dx
@@ -59,7 +61,7 @@ pub record MaskFacts (k : ℕ) (o r : Row) : Type 0 where
 
 -- a channel of the canvas
 pub record CanvasFacts (c : Canvas) (k : ℕ) (r : Row) : Type 0 where
-  pub kind : r .kind ≡ 3
+  pub kind : r .kind ≡ Kind.channel
   pub width : r .width ≡ c .width
   pub height : r .height ≡ c .height
   pub dx : r .dx ≡ 0
@@ -68,17 +70,17 @@ pub record CanvasFacts (c : Canvas) (k : ℕ) (r : Row) : Type 0 where
 
 -- what comes before a layer, and before a channel
 pub record BeforeLayer (s : Seen) : Type 0 where
-  pub few : s .layers < 48
+  pub few : s .layers < layerLimit
   pub channels : s .channels ≡ 0
   pub unused : s .unused ≡ 0
 
 pub record BeforeChannel (s : Seen) : Type 0 where
-  pub few : s .channels < 32
+  pub few : s .channels < channelLimit
   pub unused : s .unused ≡ 0
 
 -- a usable row, by its kind
 pub data Use (c : Canvas) (names k : ℕ) (s : Seen) (r : Row) (hasMask : Bool) : Type 0 where
-  unused : r .kind ≡ 0 → allZero (rowNumbers r) ≡ true → Use c names k s r hasMask
+  unused : r .kind ≡ Kind.unused → allZero (rowNumbers r) ≡ true → Use c names k s r hasMask
   layer : DrawableFacts names r → LayerFacts c k r hasMask → BeforeLayer s → Use c names k s r hasMask
   mask : DrawableFacts names r → ChannelFacts r → MaskFacts k (s .row) r → Use c names k s r hasMask
   channel : DrawableFacts names r → ChannelFacts r → CanvasFacts c k r → BeforeChannel s → Use c names k s r hasMask
@@ -95,17 +97,17 @@ or-first : (a b : Bool) → a || b ≡ true → b ≡ false → a ≡ true
 or-first true b e none = refl
 or-first false b e none = rw none at e
 
-drawable-says : (names : ℕ) (r : Row) → drawableOk names r ≡ true → (1 ≤ r .depth) × (r .depth ≤ 4) → DrawableFacts names r
+drawable-says : (names : ℕ) (r : Row) → drawableOk names r ≡ true → (1 ≤ r .depth) × (r .depth ≤ depthLimit) → DrawableFacts names r
 unfolding drawableOk sideOk
 drawable-says names r e deep =
     let t =
     each
-    (sideOk (r .width) ∷ sideOk (r .height) ∷ eqb (r .count) (tileCount (r .width) (r .height)) ∷ leb (r .opacity) 255
-    ∷ leb (r .size) 1024 ∷ leb (r .name + r .size) names ∷ eqb (r .list) 0 ∷ eqb (r .tiles) 0 ∷ [])
+    (sideOk (r .width) ∷ sideOk (r .height) ∷ eqb (r .count) (tileCount (r .width) (r .height)) ∷ leb (r .opacity) fullOpacity
+    ∷ leb (r .size) nameLimit ∷ leb (r .name + r .size) names ∷ eqb (r .list) 0 ∷ eqb (r .tiles) 0 ∷ [])
     e in
     record {
-      wide = within-bounds 1 16384 (r .width) (t 0);
-      high = within-bounds 1 16384 (r .height) (t 1);
+      wide = within-bounds 1 sideLimit (r .width) (t 0);
+      high = within-bounds 1 sideLimit (r .height) (t 1);
       count = eqb-true _ _ (t 2);
       opaque = leb-true _ _ (t 3);
       short = leb-true _ _ (t 4);
@@ -116,12 +118,12 @@ drawable-says names r e deep =
     }
 
 layer-says : (c : Canvas) (k : ℕ) (r : Row) (hasMask : Bool)
-    → r .kind ≡ 1 → layerOk c k r hasMask ≡ true → LayerFacts c k r hasMask
+    → r .kind ≡ Kind.layer → layerOk c k r hasMask ≡ true → LayerFacts c k r hasMask
 unfolding layerOk
 layer-says c k r hasMask kind e =
     let t =
     each
-    (typeOk (c .base) (r .form) ∷ leb (r .form) 3 ∷ eqb (r .depth) (depthOf (r .form)) ∷ leb (r .mode) 21 ∷ eqb (r .owner) k
+    (typeOk (c .base) (r .form) ∷ leb (r .form) writtenTypeLimit ∷ eqb (r .depth) (depthOf (r .form)) ∷ leb (r .mode) modeLimit ∷ eqb (r .owner) k
     ∷ layerFlagsOk r ∷ (eqb (apply r) 0 || hasMask) ∷ [])
     e in
     record {
@@ -138,7 +140,7 @@ layer-says c k r hasMask kind e =
 before-layer-says : (s : Seen) (r : Row) → layerFollows s r ≡ true → BeforeLayer s
 unfolding layerFollows
 before-layer-says s r e =
-    let t = each (ltb (s .layers) 48 ∷ eqb (s .channels) 0 ∷ eqb (s .unused) 0 ∷ noSecond (isActiveLayer r) (s .chosen) ∷ []) e in
+    let t = each (ltb (s .layers) layerLimit ∷ eqb (s .channels) 0 ∷ eqb (s .unused) 0 ∷ noSecond (isActiveLayer r) (s .chosen) ∷ []) e in
     record { few = ltb-true _ _ (t 0); channels = eqb-true _ _ (t 1); unused = eqb-true _ _ (t 2) }
 
 channel-says : (s : Seen) (r : Row) → channelOk s r ≡ true → ChannelFacts r
@@ -151,7 +153,7 @@ channel-says s r e =
     e in
     record { depth = eqb-true _ _ (t 0); form = eqb-true _ _ (t 1); mode = eqb-true _ _ (t 2); flags = eqb-true _ _ (t 3) }
 
-mask-says : (k : ℕ) (s : Seen) (r : Row) → r .kind ≡ 2 → maskFollows k s r ≡ true → MaskFacts k (s .row) r
+mask-says : (k : ℕ) (s : Seen) (r : Row) → r .kind ≡ Kind.mask → maskFollows k s r ≡ true → MaskFacts k (s .row) r
 unfolding maskFollows
 mask-says k s r kind e =
     let t =
@@ -170,13 +172,13 @@ mask-says k s r kind e =
     }
 
 canvas-says : (c : Canvas) (k : ℕ) (s : Seen) (r : Row)
-    → r .kind ≡ 3 → channelFollows c k s r ≡ true → CanvasFacts c k r × BeforeChannel s
+    → r .kind ≡ Kind.channel → channelFollows c k s r ≡ true → CanvasFacts c k r × BeforeChannel s
 unfolding channelFollows
 canvas-says c k s r kind e =
     let t =
     each
     (eqb (r .width) (c .width) ∷ eqb (r .height) (c .height) ∷ eqb (r .dx) 0 ∷ eqb (r .dy) 0 ∷ eqb (r .owner) k
-    ∷ ltb (s .channels) 32 ∷ eqb (s .unused) 0 ∷ [])
+    ∷ ltb (s .channels) channelLimit ∷ eqb (s .unused) 0 ∷ [])
     e in (
       record {
         kind = kind;
@@ -194,30 +196,30 @@ row-says : (c : Canvas) (names k : ℕ) (s : Seen) (r : Row) (hasMask : Bool)
 unfolding usableRow
 row-says c names k s r hasMask e = go (r .kind) refl
   where
-    one-deep : r .depth ≡ 1 → (1 ≤ r .depth) × (r .depth ≤ 4)
+    one-deep : r .depth ≡ 1 → (1 ≤ r .depth) × (r .depth ≤ depthLimit)
     one-deep h = omega arith
 
     go : (n : ℕ) → r .kind ≡ n → Use c names k s r hasMask
-    go zero h = unused h (rw (eq-eqb (r .kind) 0 h) at e)
+    go zero h = unused h (rw (eq-eqb (r .kind) Kind.unused h) at e)
     go (suc zero) h =
         let t =
         each
         (drawableOk names r ∷ layerOk c k r hasMask ∷ layerFollows s r ∷ [])
-        (rw (ne-eqb (r .kind) 0 (λ z. omega arith), eq-eqb (r .kind) 1 h) at e) in
+        (rw (ne-eqb (r .kind) Kind.unused (λ z. omega arith), eq-eqb (r .kind) Kind.layer h) at e) in
         let l = layer-says c k r hasMask h (t 1) in
         layer (drawable-says names r (t 0) (rw (l .depth) (depth-deep (r .form) (l .form)))) l (before-layer-says s r (t 2))
     go (suc (suc zero)) h =
         let t =
         each
         (drawableOk names r ∷ channelOk s r ∷ maskFollows k s r ∷ [])
-        (rw (ne-eqb (r .kind) 0 (λ z. omega arith), ne-eqb (r .kind) 1 (λ z. omega arith), eq-eqb (r .kind) 2 h) at e) in
+        (rw (ne-eqb (r .kind) Kind.unused (λ z. omega arith), ne-eqb (r .kind) Kind.layer (λ z. omega arith), eq-eqb (r .kind) Kind.mask h) at e) in
         let ch = channel-says s r (t 1) in
         mask (drawable-says names r (t 0) (one-deep (ch .depth))) ch (mask-says k s r h (t 2))
     go (suc (suc (suc n))) h =
         let t =
         each
         (isChannel r ∷ drawableOk names r ∷ channelOk s r ∷ channelFollows c k s r ∷ [])
-        (rw (ne-eqb (r .kind) 0 (λ z. omega arith), ne-eqb (r .kind) 1 (λ z. omega arith), ne-eqb (r .kind) 2 (λ z. omega arith)) at e) in
+        (rw (ne-eqb (r .kind) Kind.unused (λ z. omega arith), ne-eqb (r .kind) Kind.layer (λ z. omega arith), ne-eqb (r .kind) Kind.mask (λ z. omega arith)) at e) in
         let ch = channel-says s r (t 2) in
         let v = canvas-says c k s r (eqb-true _ _ (t 0)) (t 3) in
         channel (drawable-says names r (t 1) (one-deep (ch .depth))) ch (v .0) (v .1)
@@ -230,31 +232,31 @@ module _ {c : Canvas} {names k : ℕ} {s : Seen} {r : Row} {hasMask : Bool} wher
   use-listed (mask d ch m) = omega arith
   use-listed (channel d ch v b) = omega arith
 
-  use-drawable : Use c names k s r hasMask → (r .kind ≡ 0 → ⊥) → DrawableFacts names r
+  use-drawable : Use c names k s r hasMask → (r .kind ≡ Kind.unused → ⊥) → DrawableFacts names r
   use-drawable (unused h z) used = absurd (used h)
   use-drawable (layer d l b) used = d
   use-drawable (mask d ch m) used = d
   use-drawable (channel d ch v b) used = d
 
-  use-layer : Use c names k s r hasMask → r .kind ≡ 1 → LayerFacts c k r hasMask × BeforeLayer s
+  use-layer : Use c names k s r hasMask → r .kind ≡ Kind.layer → LayerFacts c k r hasMask × BeforeLayer s
   use-layer (unused h z) one = absurd (omega arith)
   use-layer (layer d l b) one = (l, b)
   use-layer (mask d ch m) one = absurd (omega arith)
   use-layer (channel d ch v b) one = absurd (omega arith)
 
-  use-numbers : Use c names k s r hasMask → (r .kind ≡ 0 → ⊥) → (r .kind ≡ 1 → ⊥) → ChannelFacts r
+  use-numbers : Use c names k s r hasMask → (r .kind ≡ Kind.unused → ⊥) → (r .kind ≡ Kind.layer → ⊥) → ChannelFacts r
   use-numbers (unused h z) used other = absurd (used h)
   use-numbers (layer d l b) used other = absurd (other (l .kind))
   use-numbers (mask d ch m) used other = ch
   use-numbers (channel d ch v b) used other = ch
 
-  use-mask : Use c names k s r hasMask → r .kind ≡ 2 → MaskFacts k (s .row) r
+  use-mask : Use c names k s r hasMask → r .kind ≡ Kind.mask → MaskFacts k (s .row) r
   use-mask (unused h z) two = absurd (omega arith)
   use-mask (layer d l b) two = absurd (omega arith)
   use-mask (mask d ch m) two = m
   use-mask (channel d ch v b) two = absurd (omega arith)
 
-  use-channel : Use c names k s r hasMask → r .kind ≡ 3 → CanvasFacts c k r × BeforeChannel s
+  use-channel : Use c names k s r hasMask → r .kind ≡ Kind.channel → CanvasFacts c k r × BeforeChannel s
   use-channel (unused h z) three = absurd (omega arith)
   use-channel (layer d l b) three = absurd (omega arith)
   use-channel (mask d ch m) three = absurd (omega arith)
@@ -268,24 +270,24 @@ module _ (c : Canvas) (names : ℕ) (table : List ℕ) (k : ℕ) (ok : usable c 
   pub kind-listed : rowAt table k .kind ≤ 3
   kind-listed = use-listed row-use
 
-  pub drawable-facts : (rowAt table k .kind ≡ 0 → ⊥) → DrawableFacts names (rowAt table k)
+  pub drawable-facts : (rowAt table k .kind ≡ Kind.unused → ⊥) → DrawableFacts names (rowAt table k)
   drawable-facts = use-drawable row-use
 
-  pub layer-facts : rowAt table k .kind ≡ 1 → LayerFacts c k (rowAt table k) (masked table k)
+  pub layer-facts : rowAt table k .kind ≡ Kind.layer → LayerFacts c k (rowAt table k) (masked table k)
   layer-facts one = use-layer row-use one .0
 
-  pub layer-before : rowAt table k .kind ≡ 1 → BeforeLayer (seenAt table k)
+  pub layer-before : rowAt table k .kind ≡ Kind.layer → BeforeLayer (seenAt table k)
   layer-before one = use-layer row-use one .1
 
-  pub channel-facts : (rowAt table k .kind ≡ 0 → ⊥) → (rowAt table k .kind ≡ 1 → ⊥) → ChannelFacts (rowAt table k)
+  pub channel-facts : (rowAt table k .kind ≡ Kind.unused → ⊥) → (rowAt table k .kind ≡ Kind.layer → ⊥) → ChannelFacts (rowAt table k)
   channel-facts = use-numbers row-use
 
-  pub mask-facts : rowAt table k .kind ≡ 2 → MaskFacts k (rowBefore table k) (rowAt table k)
+  pub mask-facts : rowAt table k .kind ≡ Kind.mask → MaskFacts k (rowBefore table k) (rowAt table k)
   unfolding seenAt
   mask-facts = use-mask row-use
 
-  pub canvas-facts : rowAt table k .kind ≡ 3 → CanvasFacts c k (rowAt table k)
+  pub canvas-facts : rowAt table k .kind ≡ Kind.channel → CanvasFacts c k (rowAt table k)
   canvas-facts three = use-channel row-use three .0
 
-  pub channel-before : rowAt table k .kind ≡ 3 → BeforeChannel (seenAt table k)
+  pub channel-before : rowAt table k .kind ≡ Kind.channel → BeforeChannel (seenAt table k)
   channel-before three = use-channel row-use three .1

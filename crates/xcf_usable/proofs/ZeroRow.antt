@@ -7,7 +7,8 @@ use native.Mathlib.Nat.{add-zero, add-suc}
 use native.Mathlib.Omega.{arith}
 use lib.ListN.{length, take, drop, getD}
 use lib.Seq.{drop-cons}
-use Rattle.xcf_table.specs.Table.{rowSize, rowNumbers, rowIn, rowAt}
+use Rattle.xcf_numbers.specs.Limit.{rowSize}
+use Rattle.xcf_table.specs.Table.{rowNumbers, rowIn, rowAt}
 use Rattle.xcf_table.proofs.Rows.{row-there}
 
 -- n numbers, from number i behind a place on

@@ -3,29 +3,27 @@ use Prim.Native.Nat.{ℕ, zero, suc, _+_, _*_, _/_, _%_}
 use mathlib.Core.List.{List, [], _∷_}
 use mathlib.Core.Bool.{Bool, true, cond, not, _&&_, _||_}
 use lib.Dec.{leb, ltb, eqb}
+use Rattle.xcf_numbers.specs.Limit.{writtenTypeLimit, fullOpacity, modeLimit, layerLimit, channelLimit, nameLimit, tableRows}
+use Rattle.xcf_numbers.specs.Kind
 use Rattle.xcf_table.specs.declared.Row.{Row}
-use Rattle.xcf_table.specs.Table.{rowSize, tableSize, rowNumbers, unusedRow, rowAt}
+use Rattle.xcf_table.specs.Table.{rowNumbers, unusedRow, rowAt}
 use Rattle.xcf_grid.specs.Grid.{tileCount}
 use Rattle.xcf_table.specs.declared.canvas.Canvas.{Canvas}
 use Rattle.xcf_table.specs.Canvas.{sideOk, typeOk, depthOf}
 use Rattle.xcf_usable.specs.declared.seen.Seen.{Seen}
 
--- a table's rows
-abbrev pub tableRows : ℕ
-tableRows = tableSize / rowSize
-
 -- a kind of row
 abbrev pub isLayer : Row → Bool
-isLayer r = eqb (r .kind) 1
+isLayer r = eqb (r .kind) Kind.layer
 
 abbrev pub isMask : Row → Bool
-isMask r = eqb (r .kind) 2
+isMask r = eqb (r .kind) Kind.mask
 
 abbrev pub isChannel : Row → Bool
-isChannel r = eqb (r .kind) 3
+isChannel r = eqb (r .kind) Kind.channel
 
 abbrev pub isUnused : Row → Bool
-isUnused r = eqb (r .kind) 0
+isUnused r = eqb (r .kind) Kind.unused
 
 -- flags: 1 visible, 2 apply mask, 4 selection, 8 active; 1 or 0 as the flag is set or not
 abbrev pub visible : Row → ℕ
@@ -93,19 +91,19 @@ drawableOk names r =
     sideOk (r .width)
     && (sideOk (r .height)
     && (eqb (r .count) (tileCount (r .width) (r .height))
-    && (leb (r .opacity) 255 && (leb (r .size) 1024 && (leb (r .name + r .size) names && (eqb (r .list) 0 && eqb (r .tiles) 0))))))
+    && (leb (r .opacity) fullOpacity && (leb (r .size) nameLimit && (leb (r .name + r .size) names && (eqb (r .list) 0 && eqb (r .tiles) 0))))))
 
 -- a layer's numbers: its type is 0 to 3 and the image's; it applies a mask only where it has one
 unfoldable pub layerOk : Canvas → ℕ → Row → Bool → Bool
 layerOk c k r hasMask =
     typeOk (c .base) (r .form)
-    && (leb (r .form) 3
+    && (leb (r .form) writtenTypeLimit
     && (eqb (r .depth) (depthOf (r .form))
-    && (leb (r .mode) 21 && (eqb (r .owner) k && (layerFlagsOk r && (eqb (apply r) 0 || hasMask))))))
+    && (leb (r .mode) modeLimit && (eqb (r .owner) k && (layerFlagsOk r && (eqb (apply r) 0 || hasMask))))))
 
 -- at most 48 layers, all before the channels and the unused rows, at most one of them active
 unfoldable pub layerFollows : Seen → Row → Bool
-layerFollows s r = ltb (s .layers) 48 && (eqb (s .channels) 0 && (eqb (s .unused) 0 && noSecond (isActiveLayer r) (s .chosen)))
+layerFollows s r = ltb (s .layers) layerLimit && (eqb (s .channels) 0 && (eqb (s .unused) 0 && noSecond (isActiveLayer r) (s .chosen)))
 
 -- a mask's or channel's numbers; at most one of them is active, and at most one the selection
 unfoldable pub channelOk : Seen → Row → Bool
@@ -126,7 +124,7 @@ unfoldable pub channelFollows : Canvas → ℕ → Seen → Row → Bool
 channelFollows c k s r =
     eqb (r .width) (c .width)
     && (eqb (r .height) (c .height)
-    && (eqb (r .dx) 0 && (eqb (r .dy) 0 && (eqb (r .owner) k && (ltb (s .channels) 32 && eqb (s .unused) 0)))))
+    && (eqb (r .dx) 0 && (eqb (r .dy) 0 && (eqb (r .owner) k && (ltb (s .channels) channelLimit && eqb (s .unused) 0)))))
 
 -- numbers that are all 0
 unfoldable pub allZero : List ℕ → Bool

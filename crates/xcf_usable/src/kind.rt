@@ -6,6 +6,13 @@ use crate::seen::is_active_channel;
 use crate::seen::is_active_layer;
 use crate::seen::is_selection;
 use xcf_grid::tile_count;
+use xcf_numbers::kind;
+use xcf_numbers::limit::CHANNEL_LIMIT;
+use xcf_numbers::limit::FULL_OPACITY;
+use xcf_numbers::limit::LAYER_LIMIT;
+use xcf_numbers::limit::MODE_LIMIT;
+use xcf_numbers::limit::NAME_LIMIT;
+use xcf_numbers::limit::WRITTEN_TYPE_LIMIT;
 use xcf_table::Row;
 use xcf_table::canvas::Canvas;
 use xcf_table::canvas::depth_of;
@@ -37,8 +44,8 @@ pub(crate) fn drawable_ok(names: usize, row: Row) -> bool
     side_ok(row.width)
         & (side_ok(row.height)
             & ((row.count as u64 == tiles)
-                & ((row.opacity <= 255)
-                    & ((row.size <= 1024)
+                & ((row.opacity <= FULL_OPACITY)
+                    & ((row.size <= NAME_LIMIT)
                         & ((name_end <= names as u64) & ((row.list == 0) & (row.tiles == 0)))))))
 }
 
@@ -47,16 +54,16 @@ pub(crate) fn layer_ok(canvas: Canvas, k: u32, row: Row, masked: bool) -> bool
 {
     let apply = row.flags / 2 % 2;
     type_ok(canvas.base, row.form)
-        & ((row.form <= 3)
+        & ((row.form <= WRITTEN_TYPE_LIMIT)
             & ((row.depth == depth_of(row.form))
-                & ((row.mode <= 21)
+                & ((row.mode <= MODE_LIMIT)
                     & ((row.owner == k) & (layer_flags_ok(row) & ((apply == 0) | masked))))))
 }
 
 pub(crate) fn layer_follows(seen: Seen, row: Row) -> bool
     ensures { λ r. ⌜ r ≡ layerFollows seen row ⌝ }
 {
-    (seen.layers < 48)
+    (seen.layers < LAYER_LIMIT)
         & ((seen.channels == 0)
             & ((seen.unused == 0) & (!is_active_layer(row) | (seen.chosen == 0))))
 }
@@ -76,7 +83,7 @@ pub(crate) fn mask_follows(k: u32, seen: Seen, row: Row) -> bool
     ensures { λ r. ⌜ r ≡ maskFollows k seen row ⌝ }
 {
     let layer = seen.row;
-    (layer.kind == 1)
+    (layer.kind == kind::LAYER)
         & ((row.width == layer.width)
             & ((row.height == layer.height)
                 & ((row.dx == layer.dx)
@@ -90,5 +97,5 @@ pub(crate) fn channel_follows(canvas: Canvas, k: u32, seen: Seen, row: Row) -> b
         & ((row.height == canvas.height)
             & ((row.dx == 0)
                 & ((row.dy == 0)
-                    & ((row.owner == k) & ((seen.channels < 32) & (seen.unused == 0))))))
+                    & ((row.owner == k) & ((seen.channels < CHANNEL_LIMIT) & (seen.unused == 0))))))
 }

@@ -8,9 +8,8 @@ ghost use Rattle.xcf_usable.specs.Usable.{badRow};
 use crate::row::usable;
 use crate::seen::none;
 use crate::seen::see;
+use xcf_numbers::limit::TABLE_ROWS;
 use xcf_table::canvas::Canvas;
-
-pub const TABLE_ROWS: u32 = 128;
 
 // The lowest row of the table that is not usable, or 128; names is how many bytes are lent for the names.
 pub fn bad_row(canvas: Canvas, names: usize, table: &[u32]) -> u32

@@ -3,7 +3,6 @@ ghost use mathlib.Core.Path.{_≡_};
 ghost use Prim.Native.Nat.{_<_};
 ghost use Rattle.xcf_table.specs.Table.{rowNumbers, rowAt};
 ghost use Rattle.xcf_usable.specs.Usable.{masked, allZero, usableRow};
-use crate::TABLE_ROWS;
 use crate::kind::channel_follows;
 use crate::kind::channel_ok;
 use crate::kind::drawable_ok;
@@ -11,7 +10,9 @@ use crate::kind::layer_follows;
 use crate::kind::layer_ok;
 use crate::kind::mask_follows;
 use crate::seen::Seen;
-use xcf_table::ROW_SIZE;
+use xcf_numbers::kind;
+use xcf_numbers::limit::ROW_SIZE;
+use xcf_numbers::limit::TABLE_ROWS;
 use xcf_table::Row;
 use xcf_table::canvas::Canvas;
 use xcf_table::row_at;
@@ -21,7 +22,7 @@ pub fn masked(table: &[u32], k: u32) -> bool
     ensures { λ r. ⌜ r ≡ masked (now (table .entry)) k ⌝ }
 {
     if k < TABLE_ROWS {
-        return row_at(table, k + 1).kind == 2;
+        return row_at(table, k + 1).kind == kind::MASK;
     }
     false
 }
@@ -56,15 +57,16 @@ fn used_row(canvas: Canvas, names: usize, k: u32, seen: Seen, row: Row, masked: 
     requires { ⌜ 0 < row .kind ⌝ }
     ensures { λ r. ⌜ r ≡ usableRow canvas names k seen row masked ⌝ }
 {
-    if row.kind == 1 {
+    if row.kind == kind::LAYER {
         return drawable_ok(names, row)
             & (layer_ok(canvas, k, row, masked) & layer_follows(seen, row));
     }
     let ok = drawable_ok(names, row);
-    if row.kind == 2 {
+    if row.kind == kind::MASK {
         return ok & (channel_ok(seen, row) & mask_follows(k, seen, row));
     }
-    (row.kind == 3) & (ok & (channel_ok(seen, row) & channel_follows(canvas, k, seen, row)))
+    (row.kind == kind::CHANNEL)
+        & (ok & (channel_ok(seen, row) & channel_follows(canvas, k, seen, row)))
 }
 
 // Whether row k is usable behind the rows seen.
@@ -72,7 +74,7 @@ pub(crate) fn usable(canvas: Canvas, names: usize, table: &[u32], k: u32, seen: 
     ensures { λ r. ⌜ r ≡ usableRow canvas names k seen (rowAt (now (table .entry)) k) (masked (now (table .entry)) k) ⌝ }
 {
     let row = row_at(table, k);
-    if row.kind == 0 {
+    if row.kind == kind::UNUSED {
         return zero_row(table, k);
     }
     used_row(canvas, names, k, seen, row, masked(table, k))

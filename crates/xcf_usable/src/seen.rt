@@ -2,7 +2,9 @@
 ghost use mathlib.Core.Path.{_≡_};
 ghost use mathlib.Core.Bool.{cond};
 ghost use Prim.Native.Nat.{_+_, _<_};
+ghost use Rattle.xcf_numbers.specs.Limit.{tableRows};
 ghost use Rattle.xcf_usable.specs.Usable.{isActiveLayer, isActiveChannel, isSelection, seenAt};
+use xcf_numbers::kind;
 use xcf_table::Row;
 use xcf_table::row_at;
 use xcf_table::unused_row;
@@ -42,31 +44,31 @@ fn one(test: bool) -> u32
 pub(crate) fn is_active_layer(row: Row) -> bool
     ensures { λ r. ⌜ r ≡ isActiveLayer row ⌝ }
 {
-    (row.kind == 1) & (row.flags / 8 % 2 == 1)
+    (row.kind == kind::LAYER) & (row.flags / 8 % 2 == 1)
 }
 
 pub(crate) fn is_active_channel(row: Row) -> bool
     ensures { λ r. ⌜ r ≡ isActiveChannel row ⌝ }
 {
-    !(row.kind == 1) & (row.flags / 8 % 2 == 1)
+    !(row.kind == kind::LAYER) & (row.flags / 8 % 2 == 1)
 }
 
 pub(crate) fn is_selection(row: Row) -> bool
     ensures { λ r. ⌜ r ≡ isSelection row ⌝ }
 {
-    !(row.kind == 1) & (row.flags / 4 % 2 == 1)
+    !(row.kind == kind::LAYER) & (row.flags / 4 % 2 == 1)
 }
 
 // Behind row k.
 pub(crate) fn see(table: &[u32], k: u32, seen: Seen) -> Seen
-    requires { ⌜ (k < 128) × (seen ≡ seenAt (now table) k) ⌝ }
+    requires { ⌜ (k < tableRows) × (seen ≡ seenAt (now table) k) ⌝ }
     ensures { λ r. ⌜ r ≡ seenAt (now (table .entry)) (k + 1) ⌝ }
 {
     let row = row_at(table, k);
     Seen {
-        layers: seen.layers + one(row.kind == 1),
-        channels: seen.channels + one(row.kind == 3),
-        unused: seen.unused + one(row.kind == 0),
+        layers: seen.layers + one(row.kind == kind::LAYER),
+        channels: seen.channels + one(row.kind == kind::CHANNEL),
+        unused: seen.unused + one(row.kind == kind::UNUSED),
         chosen: seen.chosen + one(is_active_layer(row)),
         active: seen.active + one(is_active_channel(row)),
         selections: seen.selections + one(is_selection(row)),

@@ -8,6 +8,7 @@ use native.Mathlib.Omega.{arith}
 use borrow.Author.Tests.{eq-eqb, ne-eqb, eqb-true, eqb-false, leb-true}
 use lib.Dec.{leb, eqb}
 use lib.ListN.{length}
+use Rattle.xcf_numbers.specs.Refusal
 use Rattle.xcf_walk.specs.declared.cursor.Cursor.{Cursor}
 use Rattle.xcf_walk.specs.Walk.{Outcome, got, refused, Walk, done, _>>=_, run, bytes, here, fileLength, jump, must}
 use Rattle.xcf_store.specs.Word.{part}
@@ -88,8 +89,8 @@ unfolding outcome resume run bytes skipped
 by-skip c {d} f n e = record { gives = ap (λ x. outcome x (part f (c .at) n)) e ∙ go (eqb (c .number) 0) refl (leb (c .at + n) (length f)) }
   where
     go : (l : Bool) → eqb (c .number) 0 ≡ l → (t : Bool)
-        → outcome (cond l (cond t (record { at = c .at + n; number = 0 }) (record { at = c .at; number = 1 })) c) (part f (c .at) n)
-        ≡ cond l (cond t (got (part f (c .at) n) (c .at + n)) (refused 1 (c .at))) (refused (c .number) (c .at))
+        → outcome (cond l (cond t (record { at = c .at + n; number = 0 }) (record { at = c .at; number = Refusal.pastEnd })) c) (part f (c .at) n)
+        ≡ cond l (cond t (got (part f (c .at) n) (c .at + n)) (refused Refusal.pastEnd (c .at))) (refused (c .number) (c .at))
     go true e true = refl
     go true e false = refl
     go false e t = rw e
@@ -100,7 +101,7 @@ unfolding skipped
 skip-fits c d f n e h = go (eqb (c .number) 0) refl (leb (c .at + n) (length f)) refl (sym (ap (λ x. x .number) e) ∙ h)
   where
     go : (l : Bool) → eqb (c .number) 0 ≡ l → (t : Bool) → leb (c .at + n) (length f) ≡ t
-        → cond l (cond t (record { at = c .at + n; number = 0 }) (record { at = c .at; number = 1 })) c .number ≡ 0 → c .at + n ≤ length f
+        → cond l (cond t (record { at = c .at + n; number = 0 }) (record { at = c .at; number = Refusal.pastEnd })) c .number ≡ 0 → c .at + n ≤ length f
     go true e1 true e2 z = leb-true _ _ e2
     go true e1 false e2 z = absurd (omega arith)
     go false e1 t e2 z = absurd (eqb-false _ _ e1 z)

@@ -8,6 +8,7 @@ use native.Mathlib.Omega.{arith}
 use borrow.Author.Tests.{leb-true}
 use lib.Dec.{leb}
 use lib.ListN.{length}
+use Rattle.xcf_numbers.specs.Refusal
 use Rattle.xcf_walk.specs.Walk.{Outcome, got, refused, Walk, done, refuse, pass, ask, move, _>>=_, run, bytes, here, fileLength, must}
 use Rattle.xcf_store.specs.Word.{part}
 
@@ -25,8 +26,8 @@ unfolding run
 run-bind (done a) k f at = refl
 run-bind (refuse n p) k f at = refl
 run-bind (pass n h) k f at =
-    ap (λ x. cond (leb (at + n) (length f)) x (refused 1 at)) (run-bind (h (part f at n)) k f (at + n))
-    ∙ after-cond (leb (at + n) (length f)) (run (h (part f at n)) f (at + n)) (refused 1 at) (λ a q. run (k a) f q)
+    ap (λ x. cond (leb (at + n) (length f)) x (refused Refusal.pastEnd at)) (run-bind (h (part f at n)) k f (at + n))
+    ∙ after-cond (leb (at + n) (length f)) (run (h (part f at n)) f (at + n)) (refused Refusal.pastEnd at) (λ a q. run (k a) f q)
 run-bind (ask h) k f at = run-bind (h at (length f)) k f at
 run-bind (move p w) k f at = run-bind w k f p
 
@@ -73,7 +74,7 @@ module _ (f : List ℕ) (at : ℕ) {q : ℕ} where
   unfolding run
   got-pass {A} {a} n h e = go (leb (at + n) (length f)) refl e
     where
-      go : (t : Bool) → leb (at + n) (length f) ≡ t → got a q ≡ cond t (run (h (part f at n)) f (at + n)) (refused 1 at)
+      go : (t : Bool) → leb (at + n) (length f) ≡ t → got a q ≡ cond t (run (h (part f at n)) f (at + n)) (refused Refusal.pastEnd at)
           → (at + n ≤ length f) × (got a q ≡ run (h (part f at n)) f (at + n))
       go true e1 e2 = (leb-true _ _ e1, e2)
       go false e1 e2 = absurd (got-not-refused e2)

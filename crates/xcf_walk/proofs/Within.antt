@@ -9,6 +9,7 @@ use native.Mathlib.Omega.{arith}
 use borrow.Author.Tests.{eqb-true, eqb-false}
 use lib.Dec.{eqb}
 use lib.ListN.{length}
+use Rattle.xcf_numbers.specs.Refusal
 use Rattle.xcf_walk.specs.declared.cursor.Cursor.{Cursor}
 use Rattle.xcf_walk.specs.declared.cursor.Name.{Name}
 use Rattle.xcf_walk.specs.Walk.{Walk, got, refused, run, bytes, here, must}
@@ -75,11 +76,11 @@ got-string f at e =
     let n = parted word _ f _ (p .rest) in
     let s = parted here _ f _ (n .rest) in
     let b = parted (bytes (n .value)) _ f _ (s .rest) in
-    let m = parted (must _ 12 _) _ f _ (b .rest) in
+    let m = parted (must _ Refusal.unendedString _) _ f _ (b .rest) in
     let passed = got-bytes f (s .place) (n .value) (b .first) in
     let end = got-done f (m .place) (m .rest) in (
       omega (arith, got-here f (n .place) (s .first), passed .1, ap (λ x. x .place) (end .1), ap (λ x. x .length) (end .1)),
-      omega (arith, passed .0, passed .1, got-must f (b .place) _ 12 _ (m .first) .0, end .0),
+      omega (arith, passed .0, passed .1, got-must f (b .place) _ Refusal.unendedString _ (m .first) .0, end .0),
     )
 
 pub string-within : {c d : Cursor} {f : List ℕ} {name : Name} → Reads c string f noName d name

@@ -5,6 +5,7 @@ use mathlib.Core.List.{List}
 use mathlib.Core.Bool.{Bool, cond}
 use lib.ListN.{length}
 use lib.Dec.{eqb, leb}
+use Rattle.xcf_numbers.specs.Refusal
 use Rattle.xcf_walk.specs.declared.cursor.Cursor.{Cursor}
 use Rattle.xcf_walk.specs.declared.cursor.Name.{Name}
 use Rattle.xcf_walk.specs.declared.property.Property.{Property}
@@ -23,7 +24,7 @@ unfoldable pub jumped : Cursor → ℕ → Cursor
 jumped c p = live c (record { at = p; number = 0 }) c
 
 unfoldable pub skipped : Cursor → List ℕ → ℕ → Cursor
-skipped c f n = live c (cond (leb (c .at + n) (length f)) (record { at = c .at + n; number = 0 }) (record { at = c .at; number = 1 })) c
+skipped c f n = live c (cond (leb (c .at + n) (length f)) (record { at = c .at + n; number = 0 }) (record { at = c .at; number = Refusal.pastEnd })) c
 
 -- a cursor and the value read before it
 unfoldable pub outcome : {A : Type 0} → Cursor → A → Outcome A

@@ -2,6 +2,7 @@
 use Prim.Native.Nat.{ℕ, _-_}
 use lib.ListN.{getD}
 use lib.Dec.{eqb}
+use Rattle.xcf_numbers.specs.Refusal
 use Rattle.xcf_walk.specs.declared.cursor.Name.{Name}
 use Rattle.xcf_walk.specs.Walk.{Walk, done, bytes, here, must, _>>=_, _>>_}
 use Rattle.xcf_store.specs.Word.{bigEndian}
@@ -23,5 +24,5 @@ string = do
   n ← word
   place ← here
   b ← bytes n
-  must (eqb (getD b (n - 1) 0) 0) 12 lengthAt
+  must (eqb (getD b (n - 1) 0) 0) Refusal.unendedString lengthAt
   done (record { place = place; length = n - 1 })

@@ -2,6 +2,9 @@
 use Prim.Native.Nat.{ℕ, _+_, _*_}
 use mathlib.Core.Bool.{cond, not}
 use lib.Dec.{leb, eqb}
+use Rattle.xcf_numbers.specs.Limit.{colourLimit}
+use Rattle.xcf_numbers.specs.PropertyType
+use Rattle.xcf_numbers.specs.Refusal
 use Rattle.xcf_property.specs.declared.Content.{Content}
 use Rattle.xcf_walk.specs.declared.property.Property.{Property}
 use Rattle.xcf_property.specs.declared.Properties.{Properties}
@@ -12,18 +15,18 @@ use Rattle.xcf_property.specs.Property.{lengthOk, contentOf, isColourMap, isFlo
 -- a payload whose length its type allows
 unfoldable pub payload : ℕ → ℕ → ℕ → Walk Content
 payload kind lengthAt n = do
-  must (lengthOk kind n) 6 lengthAt
+  must (lengthOk kind n) Refusal.badLength lengthAt
   b ← bytes n
   done (contentOf b)
 
 -- the image's colour map: a count of at most 256 colours, and three bytes for each
 unfoldable pub colourMap : ℕ → ℕ → Walk Content
 colourMap lengthAt n = do
-  must (leb 4 n) 6 lengthAt
+  must (leb 4 n) Refusal.badLength lengthAt
   countAt ← here
   count ← word
-  must (leb count 256) 7 countAt
-  must (eqb n (3 * count + 4)) 6 lengthAt
+  must (leb count colourLimit) Refusal.badContent countAt
+  must (eqb n (3 * count + 4)) Refusal.badLength lengthAt
   bytes (3 * count)
   done (record { first = count; second = 0 })
 
@@ -45,10 +48,10 @@ property list = do
 unfoldable pub propertyTurn : ℕ → Properties → Walk (Turn Properties Properties)
 propertyTurn list p = do
   x ← property list
-  must (not (isFloating list (x .kind))) 16 (x .start)
-  must (not (lacksMap (x .kind) p)) 7 (x .start)
-  must (allowed list (x .kind) (x .content .first)) 7 (x .place)
-  done (cond (eqb (x .kind) 0) (last (put list (x .kind) (x .content) p)) (more (put list (x .kind) (x .content) p)))
+  must (not (isFloating list (x .kind))) Refusal.floating (x .start)
+  must (not (lacksMap (x .kind) p)) Refusal.badContent (x .start)
+  must (allowed list (x .kind) (x .content .first)) Refusal.badContent (x .place)
+  done (cond (eqb (x .kind) PropertyType.end) (last (put list (x .kind) (x .content) p)) (more (put list (x .kind) (x .content) p)))
 
 unfoldable pub properties : ℕ → ℕ → Walk Properties
 properties list unmapped = loop (propertyTurn list) (absent list unmapped)

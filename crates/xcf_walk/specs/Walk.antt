@@ -5,6 +5,7 @@ use mathlib.Core.Bool.{Bool, true, false, cond}
 use mathlib.Core.Logic.{_⊎_}
 use lib.ListN.{length}
 use lib.Dec.{leb}
+use Rattle.xcf_numbers.specs.Refusal
 use Rattle.xcf_store.specs.Word.{part}
 
 -- what a walk gives: a value and the place behind it, or a refusal's number and place
@@ -36,7 +37,7 @@ _>>_ w v = w >>= λ _. v
 unfoldable pub run : {A : Type 0} → Walk A → List ℕ → ℕ → Outcome A
 run (done a) f at = got a at
 run (refuse n p) f at = refused n p
-run (pass n h) f at = cond (leb (at + n) (length f)) (run (h (part f at n)) f (at + n)) (refused 1 at)
+run (pass n h) f at = cond (leb (at + n) (length f)) (run (h (part f at n)) f (at + n)) (refused Refusal.pastEnd at)
 run (ask h) f at = run (h at (length f)) f at
 run (move p w) f at = run w f p
 

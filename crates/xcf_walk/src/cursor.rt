@@ -7,6 +7,7 @@ ghost use Rattle.xcf_store.specs.Word.{part};
 ghost use Rattle.xcf_store.specs.Pointer.{PointerSize};
 ghost use Rattle.xcf_walk.specs.Fields.{number, word, string};
 ghost use Rattle.xcf_walk.specs.Cursor.{live, checked, jumped, skipped, Reads, noName};
+use xcf_numbers::refusal;
 use xcf_store::word::word_at;
 
 // A place in a file while the number is 0; else the first fault's number and place, which every further step keeps.
@@ -100,10 +101,16 @@ impl Cursor {
         }
         let at = self.at;
         if file.len() < at {
-            return Cursor { at, number: 1 };
+            return Cursor {
+                at,
+                number: refusal::PAST_END,
+            };
         }
         if file.len() - at < n {
-            return Cursor { at, number: 1 };
+            return Cursor {
+                at,
+                number: refusal::PAST_END,
+            };
         }
         Cursor {
             at: at + n,
@@ -143,7 +150,11 @@ impl Cursor {
         let place = n.cursor.at;
         let size = n.value as usize;
         let end = n.cursor.skip(file, size);
-        let next = end.check(last_is_zero(file, place, size), 12, self.at);
+        let next = end.check(
+            last_is_zero(file, place, size),
+            refusal::UNENDED_STRING,
+            self.at,
+        );
         if next.number != 0 {
             return NameRead {
                 name: Name {

@@ -7,6 +7,9 @@ ghost use Rattle.xcf_walk.specs.Property.{payload, colourMap, content, p
 ghost use Rattle.xcf_property.specs.Property.{noContent, noProperties};
 ghost use Rattle.xcf_walk.specs.Cursor.{Leads, Reads, noProperty, turnOf};
 use crate::cursor::Cursor;
+use xcf_numbers::limit::COLOUR_LIMIT;
+use xcf_numbers::property_type;
+use xcf_numbers::refusal;
 use xcf_property::Content;
 use xcf_property::Properties;
 use xcf_property::allowed;
@@ -52,7 +55,7 @@ impl Cursor {
     fn payload(self, file: &[u8], kind: u32, at: usize, n: u32) -> ContentRead
         ensures { λ r. ⌜ Reads self (payload kind at n) (now (file .entry)) noContent (r .cursor) (r .content) ⌝ }
     {
-        let right = self.check(length_ok(kind, n), 6, at);
+        let right = self.check(length_ok(kind, n), refusal::BAD_LENGTH, at);
         let size = n as usize;
         let next = right.skip(file, size);
         if next.number != 0 {
@@ -74,11 +77,13 @@ impl Cursor {
         ensures { λ r. ⌜ Reads self (colourMap at n) (now (file .entry)) noContent (r .cursor) (r .content) ⌝ }
     {
         let size = n as usize;
-        let long = self.check(4 <= size, 6, at);
+        let long = self.check(4 <= size, refusal::BAD_LENGTH, at);
         let count = long.word(file);
-        let few = count.cursor.check(count.value <= 256, 7, long.at);
+        let few = count
+            .cursor
+            .check(count.value <= COLOUR_LIMIT, refusal::BAD_CONTENT, long.at);
         let colours = 3 * (count.value as usize);
-        let right = few.check(size == colours + 4, 6, at);
+        let right = few.check(size == colours + 4, refusal::BAD_LENGTH, at);
         let next = right.skip(file, colours);
         if next.number != 0 {
             return ContentRead {
@@ -151,14 +156,19 @@ impl Cursor {
     {
         let read = self.property(file, list);
         let x = read.property;
-        let fixed = read.cursor.check(!is_floating(list, x.kind), 16, x.start);
-        let mapped = fixed.check(!lacks_map(x.kind, p), 7, x.start);
-        let next = mapped.check(allowed(list, x.kind, x.content.first), 7, x.place);
+        let fixed = read.cursor
+            .check(!is_floating(list, x.kind), refusal::FLOATING, x.start);
+        let mapped = fixed.check(!lacks_map(x.kind, p), refusal::BAD_CONTENT, x.start);
+        let next = mapped.check(
+            allowed(list, x.kind, x.content.first),
+            refusal::BAD_CONTENT,
+            x.place,
+        );
         let content = x.content;
         let properties = p.put(list, x.kind, content);
         PropertyTurn {
             properties,
-            again: next.number == 0 && x.kind != 0,
+            again: next.number == 0 && x.kind != property_type::END,
             cursor: next,
         }
     }

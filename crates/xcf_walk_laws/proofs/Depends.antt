@@ -11,6 +11,7 @@ use borrow.Author.Tests.{leb-true}
 use lib.Dec.{leb}
 use lib.ListN.{length, drop, getD, length-take, length-drop}
 use lib.Seq.{getD-take, getD-drop, ext-getD}
+use Rattle.xcf_numbers.specs.Refusal
 use Rattle.xcf_walk.specs.Walk.{Walk, done, refuse, pass, ask, move, refused, run, PassedOver}
 use Rattle.xcf_store.specs.Word.{part}
 
@@ -32,7 +33,7 @@ outcome-depends {A = A} (pass n h) f g at e agree =
   where
     by-room : (t : Bool) → leb (at + n) (length f) ≡ t
         → (at + n ≤ length f → part g at n ≡ part f at n → run (h (part f at n)) f (at + n) ≡ run (h (part g at n)) g (at + n))
-        → cond t (run (h (part f at n)) f (at + n)) (refused 1 at) ≡ cond (leb (at + n) (length g)) (run (h (part g at n)) g (at + n)) (refused 1 at)
+        → cond t (run (h (part f at n)) f (at + n)) (refused Refusal.pastEnd at) ≡ cond (leb (at + n) (length g)) (run (h (part g at n)) g (at + n)) (refused Refusal.pastEnd at)
     by-room true e1 go =
         let fits = leb-true _ _ e1 in
         rw (← e, e1) (go fits (sym (part-same f g at n e (λ i lo hi. agree i (fits, inl (lo, hi))))))

@@ -7,6 +7,7 @@ use mathlib.Core.Bool.{Bool, true, false, cond}
 use native.Mathlib.Omega.{arith}
 use lib.Dec.{leb}
 use lib.ListN.{length}
+use Rattle.xcf_numbers.specs.Refusal
 use Rattle.xcf_walk.specs.Walk.{Outcome, got, refused, Walk, done, run, bytes, here, fileLength, jump, must, Turn, more, last, onward, turns, loop, _>>=_}
 use Rattle.xcf_store.specs.Word.{part}
 use Rattle.xcf_walk.proofs.Walks.{after, run-bind, run-done, run-length, got-not-refused}
@@ -45,7 +46,7 @@ module _ {allowed : ℕ → Type 0} where
   unfolding run bytes
   refuses-bytes n h = record { number = λ f at e. go f at (leb (at + n) (length f)) e }
     where
-      go : (f : List ℕ) (at : ℕ) (t : Bool) {m p : ℕ} → refused m p ≡ cond t (got (part f at n) (at + n)) (refused 1 at) → allowed m
+      go : (f : List ℕ) (at : ℕ) (t : Bool) {m p : ℕ} → refused m p ≡ cond t (got (part f at n) (at + n)) (refused Refusal.pastEnd at) → allowed m
       go f at true e = absurd (got-not-refused (sym e))
       go f at false e = rw (same-number e) h
 

@@ -7,9 +7,10 @@ use mathlib.Core.Logic.{⊎-elim}
 use native.Mathlib.Omega.{arith}
 use lib.ListN.{take}
 use lib.Seq.{take-take}
+use Rattle.xcf_numbers.specs.Limit.{windowLimit}
 use Rattle.xcf_store.specs.Word.{part}
 use Rattle.xcf_laws.proofs.Cases.{below-or}
-use Rattle.xcf_tile.specs.Tile.{windowLimit, tileOf}
+use Rattle.xcf_tile.specs.Tile.{tileOf}
 
 take-min : (m n : ℕ) (l : List ℕ) → take m (take (min m n) l) ≡ take m (take n l)
 take-min m n l = ⊎-elim shorter longer (below-or n m)

@@ -10,6 +10,7 @@ use native.Mathlib.Omega.{arith}
 use borrow.Author.Tests.{le-leb, eq-eqb}
 use lib.ListN.{length, take, drop}
 use lib.Seq.{length-take-le, length-front, take-append-seam}
+use Rattle.xcf_numbers.specs.Limit.{depthLimit, tileSide, streamLimit, tileSize}
 use Rattle.xcf_store.specs.Word.{part}
 use Rattle.xcf_table.specs.declared.Row.{Row}
 use Rattle.xcf_tile.specs.declared.TileAnswer.{TileAnswer}
@@ -56,13 +57,13 @@ module _ {size : ℕ} {f : List ℕ} {r : Row} {compression t : ℕ} {s : Frame}
   height-in-range : (1 ≤ s .height) × (s .height ≤ 64)
   height-in-range = rw frame (tile-height (r .width) (r .height) t (ready .usable .wide .0) (rw (ready .usable .count) at below))
 
-  pub pixels-small : (s .width * s .height ≤ 4096) × (s .width * s .height * r .depth ≤ 16384)
+  pub pixels-small : (s .width * s .height ≤ streamLimit) × (s .width * s .height * r .depth ≤ tileSize)
   pixels-small = small (width-in-range .1) (height-in-range .1) (ready .usable .deep .1)
 
   tile-not-refused : {len : ℕ} → len ≡ s .width * s .height * r .depth → decodeRefusal (s .width) (s .height) (r .depth) compression len ≡ 0
   unfolding usableTile decodeRefusal
   tile-not-refused {len} exact =
-      rw (bounds-within 1 64 (s .width) width-in-range, bounds-within 1 64 (s .height) height-in-range, bounds-within 1 4 (r .depth) (ready .usable .deep), le-leb compression 1 (ready .usable .way), eq-eqb len (s .width * s .height * r .depth) exact)
+      rw (bounds-within 1 tileSide (s .width) width-in-range, bounds-within 1 tileSide (s .height) height-in-range, bounds-within 1 depthLimit (r .depth) (ready .usable .deep), le-leb compression 1 (ready .usable .way), eq-eqb len (s .width * s .height * r .depth) exact)
 
   -- the window that the decoder is lent is not cut yet
   same-tile : {start end : ℕ} → start ≡ pointerAt size f r t → end ≡ windowEnd size f r t
@@ -73,7 +74,7 @@ module _ {size : ℕ} {f : List ℕ} {r : Row} {compression t : ℕ} {s : Frame}
       rw (from, to, frame) (sym (cut-same f first (windowEnd size f r t - first) (tileWidth (r .width) t) (tileHeight (r .width) (r .height) t) (r .depth) compression))
 
   pub scratched : {start end : ℕ} {scratch new : List ℕ} {a : TileAnswer} → start ≡ pointerAt size f r t → end ≡ windowEnd size f r t
-      → length scratch ≡ 16384 → Decoded (part f start (end - start)) (s .width) (s .height) (r .depth) compression (take (s .width * s .height * r .depth) scratch) a new
+      → length scratch ≡ tileSize → Decoded (part f start (end - start)) (s .width) (s .height) (r .depth) compression (take (s .width * s .height * r .depth) scratch) a new
       → Scratched (tile size f r compression t) (a .mark) scratch (new ++ drop (s .width * s .height * r .depth) scratch)
   scratched {start} {end} {scratch} {new} from to room d =
       let bytes = s .width * s .height * r .depth in

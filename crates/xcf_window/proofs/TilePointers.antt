@@ -10,6 +10,7 @@ use native.Mathlib.Omega.{arith}
 use borrow.Author.Tests.{ltb-true}
 use lib.Dec.{ltb}
 use lib.ListN.{length}
+use Rattle.xcf_numbers.specs.Refusal
 use Rattle.xcf_walk.specs.Walk.{got, run, must}
 use Rattle.xcf_store.specs.Pointer.{numberAt}
 use Rattle.xcf_walk.specs.Fields.{number}
@@ -31,8 +32,8 @@ unfolding tiles
 passed size n before f at e =
     let p = parted (number size) _ f at (e ∙ run-here f at _ ∙ run-length f at _) in
     let w = got-number size f at (p .first) in
-    let m = parted (must _ 13 _) _ f _ (p .rest) in
-    let t = got-must f (p .place) _ 13 _ (m .first) in
+    let m = parted (must _ Refusal.badTilePointer _) _ f _ (p .rest) in
+    let t = got-must f (p .place) _ Refusal.badTilePointer _ (m .first) in
     let rise = and-eq-true-iff (ltb before (p .value)) (ltb (p .value) (length f)) .0 (t .1) in
     record {
       above = omega (arith, ltb-true before (p .value) (rise .0), w .2);
@@ -46,7 +47,7 @@ unfolding tiles
 tiles-end size zero before f at e =
     let p = parted (number size) _ f at (e ∙ run-here f at _) in
     let w = got-number size f at (p .first) in
-    let m = got-must f (p .place) _ 13 _ (p .rest) in
+    let m = got-must f (p .place) _ Refusal.badTilePointer _ (p .rest) in
     (omega (arith, w .0, m .0), omega (arith, w .0, w .1, m .0))
 tiles-end size (suc n) before f at e =
     let r = tiles-end size n _ f (at + size) (passed size n before f at e .rest) in

@@ -3,6 +3,7 @@ use Prim.Native.Nat.{ℕ, _≤_}
 use mathlib.Core.Path.{_≡_}
 use mathlib.Core.List.{List, _++_}
 use lib.ListN.{length, drop}
+use Rattle.xcf_numbers.specs.Limit.{sideLimit, depthLimit}
 use Rattle.xcf_walk.specs.Walk.{got, run}
 use Rattle.xcf_table.specs.declared.Row.{Row}
 use Rattle.xcf_grid.specs.Grid.{tileCount}
@@ -12,9 +13,9 @@ use Rattle.xcf_store.specs.Pointer.{PointerSize}
 
 -- a row whose numbers are in range
 pub record Usable (r : Row) (compression : ℕ) : Type 0 where
-  pub wide : (1 ≤ r .width) × (r .width ≤ 16384)
-  pub high : (1 ≤ r .height) × (r .height ≤ 16384)
-  pub deep : (1 ≤ r .depth) × (r .depth ≤ 4)
+  pub wide : (1 ≤ r .width) × (r .width ≤ sideLimit)
+  pub high : (1 ≤ r .height) × (r .height ≤ sideLimit)
+  pub deep : (1 ≤ r .depth) × (r .depth ≤ depthLimit)
   pub count : r .count ≡ tileCount (r .width) (r .height)
   pub way : compression ≤ 1
 

@@ -2,15 +2,19 @@
 use Prim.Native.Nat.{ℕ, _+_, _*_}
 use mathlib.Core.Bool.{Bool, cond, _&&_}
 use lib.Dec.{leb, eqb}
+use Rattle.xcf_numbers.specs.Limit.{fileLimit, sideLimit, depthLimit, tableSize}
+use Rattle.xcf_numbers.specs.Kind
+use Rattle.xcf_numbers.specs.Refusal
 use Rattle.xcf_store.specs.Pointer.{pointerSizeOk}
 use Rattle.xcf_table.specs.declared.Row.{Row}
-use Rattle.xcf_table.specs.Table.{tableSize, fileLimit}
 use Rattle.xcf_grid.specs.Grid.{tileCount}
 use Rattle.xcf_range.specs.Range.{within}
 
 -- kind 1 to 3, sides and depth in range; a row that the table does not have is an unused one, of kind 0
 unfoldable pub inRange : Row → Bool
-inRange r = within 1 3 (r .kind) && (within 1 16384 (r .width) && (within 1 16384 (r .height) && within 1 4 (r .depth)))
+inRange r =
+    within Kind.layer Kind.channel (r .kind)
+    && (within 1 sideLimit (r .width) && (within 1 sideLimit (r .height) && within 1 depthLimit (r .depth)))
 
 -- the count fits the sides; all pointers and the closing word lie in the file
 unfoldable pub inFile : ℕ → ℕ → Row → Bool
@@ -26,4 +30,8 @@ fits r pixels marks = eqb pixels (r .width * r .height * r .depth) && eqb marks 
 -- 11 for the table, 15, 14, at 0 each; number 0 where the row is not refused
 unfoldable pub rowRefusal : ℕ → ℕ → ℕ → Row → ℕ → ℕ
 rowRefusal size fileLength tableLength r compression =
-    cond (eqb tableLength tableSize) (cond (leb fileLength fileLimit) (cond (usableRow size fileLength r compression) 0 14) 15) 11
+    cond (eqb tableLength tableSize)
+    (cond (leb fileLength fileLimit)
+    (cond (usableRow size fileLength r compression) Refusal.accepted Refusal.unusable)
+    Refusal.tooLong)
+    Refusal.wrongBuffer

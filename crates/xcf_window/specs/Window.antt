@@ -5,11 +5,12 @@ use mathlib.Core.List.{List}
 use mathlib.Core.Bool.{cond}
 use lib.ListN.{length}
 use lib.Dec.{ltb}
+use Rattle.xcf_numbers.specs.Limit.{windowLimit}
 use Rattle.xcf_store.specs.Word.{part}
 use Rattle.xcf_store.specs.Pointer.{numberAt}
 use Rattle.xcf_table.specs.declared.Row.{Row}
 use Rattle.xcf_grid.specs.Grid.{tileWidth, tileHeight}
-use Rattle.xcf_tile.specs.Tile.{Tile, tileOf, windowLimit}
+use Rattle.xcf_tile.specs.Tile.{Tile, tileOf}
 
 -- the pointer of a row's tile t
 unfoldable pub pointerAt : ℕ → List ℕ → Row → ℕ → ℕ

@@ -2,29 +2,34 @@
 ghost use mathlib.Core.Path.{_≡_};
 ghost use Prim.Native.Nat.{_≤_};
 ghost use lib.ListN.{length};
+ghost use Rattle.xcf_numbers.specs.Limit.{sideLimit, depthLimit};
 ghost use Rattle.xcf_store.specs.Pointer.{PointerSize};
 ghost use Rattle.xcf_window.specs.Usable.{inRange, inFile, usableRow, fits, rowRefusal};
 use xcf_grid::tile_count;
+use xcf_numbers::kind;
+use xcf_numbers::limit::DEPTH_LIMIT;
+use xcf_numbers::limit::FILE_LIMIT;
+use xcf_numbers::limit::SIDE_LIMIT;
+use xcf_numbers::limit::TABLE_SIZE;
+use xcf_numbers::refusal;
 use xcf_range::outside;
 use xcf_store::pointer::POINTER_SIZE;
-use xcf_table::FILE_LIMIT;
 use xcf_table::Row;
-use xcf_table::TABLE_SIZE;
 
 // Whether the row's sides, depth and kind are in range.
 fn in_range(row: Row) -> bool
     ensures { λ r. ⌜ r ≡ inRange row ⌝ }
 {
-    if outside(1, 3, row.kind) {
+    if outside(kind::LAYER, kind::CHANNEL, row.kind) {
         return false;
     }
-    if outside(1, 16384, row.width) {
+    if outside(1, SIDE_LIMIT, row.width) {
         return false;
     }
-    if outside(1, 16384, row.height) {
+    if outside(1, SIDE_LIMIT, row.height) {
         return false;
     }
-    if outside(1, 4, row.depth) {
+    if outside(1, DEPTH_LIMIT, row.depth) {
         return false;
     }
     true
@@ -61,20 +66,20 @@ pub fn row_refusal(file: &[u8], numbers: usize, row: Row, compression: u32, size
     ensures { λ r. ⌜ r ≡ rowRefusal size (length (now (file .entry))) numbers row compression ⌝ }
 {
     if numbers != TABLE_SIZE {
-        return 11;
+        return refusal::WRONG_BUFFER;
     }
     if FILE_LIMIT < file.len() {
-        return 15;
+        return refusal::TOO_LONG;
     }
     if usable(file.len(), row, compression, size) {
         return 0;
     }
-    14
+    refusal::UNUSABLE
 }
 
 // Whether pixels and marks of these lengths fit the row.
 pub fn fits(row: Row, pixels: usize, marks: usize) -> bool
-    requires { ⌜ (row .width ≤ 16384) × (row .height ≤ 16384) × (row .depth ≤ 4) ⌝ }
+    requires { ⌜ (row .width ≤ sideLimit) × (row .height ≤ sideLimit) × (row .depth ≤ depthLimit) ⌝ }
     ensures { λ r. ⌜ r ≡ fits row pixels marks ⌝ }
 {
     if pixels != row.width as usize * row.height as usize * row.depth as usize {

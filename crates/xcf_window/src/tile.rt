@@ -2,6 +2,7 @@
 ghost use mathlib.Core.Path.{_≡_};
 ghost use Prim.Native.Nat.{_+_, _*_, _≤_, _<_};
 ghost use lib.ListN.{length};
+ghost use Rattle.xcf_numbers.specs.Limit.{tileSize};
 ghost use Rattle.xcf_store.specs.Pointer.{PointerSize};
 ghost use Rattle.xcf_window.specs.Window.{pointerAt, windowEnd, tile};
 ghost use Rattle.xcf_window.specs.Parts.{Ready, Scratched};
@@ -42,7 +43,7 @@ pub fn decode_one(
     scratch: &mut [u8],
 ) -> u8
     requires { ⌜ Ready size (now file) row compression ⌝ }
-    requires { ⌜ (t < row .count) × (frame ≡ frameOf row t) × (length (now scratch) ≡ 16384) ⌝ }
+    requires { ⌜ (t < row .count) × (frame ≡ frameOf row t) × (length (now scratch) ≡ tileSize) ⌝ }
     ensures { λ r. ⌜ Scratched (tile size (now (file .entry)) row compression t) r (now (scratch .entry)) (now (scratch .exit)) ⌝ }
 {
     let start = pointer_at(file, row, size, t);

@@ -9,13 +9,15 @@ use native.Mathlib.Omega.{arith}
 use borrow.Author.Tests.{eqb-true, eqb-false, leb-true, ne-eqb}
 use lib.ListN.{length, drop}
 use lib.Dec.{leb, eqb}
-use Rattle.xcf_table.specs.Table.{tableSize, fileLimit}
+use Rattle.xcf_numbers.specs.Limit.{fileLimit, tableRows, tableSize}
+use Rattle.xcf_numbers.specs.Base
+use Rattle.xcf_numbers.specs.Refusal
 use Rattle.xcf_table.specs.declared.canvas.Canvas.{Canvas}
 use Rattle.xcf_table.specs.Canvas.{sideOk}
-use Rattle.xcf_usable.specs.Usable.{tableRows, badRow}
+use Rattle.xcf_usable.specs.Usable.{badRow}
 use Rattle.xcf_write.specs.declared.WriteAnswer.{WriteAnswer}
 use Rattle.xcf_body.specs.Rows.{pixelsSize, usedRows}
-use Rattle.xcf_write.specs.Answer.{answered, fileOf, rowsRefusal, inputRefusal, writeAnswer, writeOutput, writing, Written}
+use Rattle.xcf_write.specs.Answer.{answered, fileOf, rowsRefusal, inputRefusal, writeAnswer, writeOutput, writing, Written, widthPlace, heightPlace, basePlace}
 use Rattle.xcf_write.specs.Parts.{Fitted}
 
 -- of two answers chosen by a test, number 0 is the first one's where the second is a refusal
@@ -36,17 +38,17 @@ module _ (c : Canvas) (table : List ℕ) (names pixels : ℕ) where
       → (badRow c names table ≡ tableRows) × (pixels ≡ pixelsSize table (usedRows table) 0)
   unfolding rowsRefusal
   rows-accepted e =
-      let a = chosen (eqb (badRow c names table) tableRows) _ (answered 17 (badRow c names table) 0) (λ z. absurd (omega arith)) e in
-      let b = chosen (eqb pixels (pixelsSize table (usedRows table) 0)) _ (answered 11 0 0) (λ z. absurd (omega arith)) (a .1) in
+      let a = chosen (eqb (badRow c names table) tableRows) _ (answered Refusal.badRow (badRow c names table) 0) (λ z. absurd (omega arith)) e in
+      let b = chosen (eqb pixels (pixelsSize table (usedRows table) 0)) _ (answered Refusal.wrongBuffer 0 0) (λ z. absurd (omega arith)) (a .1) in
       (eqb-true _ _ (a .0), eqb-true _ _ (b .0))
 
   pub input-accepted : inputRefusal c table names pixels .number ≡ 0 → InputAccepted c table names pixels
   unfolding inputRefusal
   input-accepted e =
-      let size = chosen (eqb (length table) tableSize) _ (answered 11 0 0) (λ z. absurd (omega arith)) e in
-      let wide = chosen (sideOk (c .width)) _ (answered 4 14 0) (λ z. absurd (omega arith)) (size .1) in
-      let high = chosen (sideOk (c .height)) _ (answered 4 18 0) (λ z. absurd (omega arith)) (wide .1) in
-      let base = chosen (leb (c .base) 1) _ (answered 5 22 0) (λ z. absurd (omega arith)) (high .1) in
+      let size = chosen (eqb (length table) tableSize) _ (answered Refusal.wrongBuffer 0 0) (λ z. absurd (omega arith)) e in
+      let wide = chosen (sideOk (c .width)) _ (answered Refusal.badSide widthPlace 0) (λ z. absurd (omega arith)) (size .1) in
+      let high = chosen (sideOk (c .height)) _ (answered Refusal.badSide heightPlace 0) (λ z. absurd (omega arith)) (wide .1) in
+      let base = chosen (leb (c .base) Base.grey) _ (answered Refusal.badBase basePlace 0) (λ z. absurd (omega arith)) (high .1) in
       let rows = rows-accepted (base .1) in
       record {
         size = eqb-true _ _ (size .0);
@@ -72,7 +74,7 @@ unfolding writeAnswer
 answer-accepted refusal size room e = go (eqb (refusal .number) 0) refl (leb size room && leb size fileLimit) refl e
   where
     go : (a : Bool) → eqb (refusal .number) 0 ≡ a → (b : Bool) → (leb size room && leb size fileLimit) ≡ b
-        → cond a (cond b (answered 0 0 size) (answered 18 0 0)) refusal .number ≡ 0
+        → cond a (cond b (answered Refusal.accepted 0 size) (answered Refusal.noRoom 0 0)) refusal .number ≡ 0
         → (refusal .number ≡ 0) × ((leb size room && leb size fileLimit) ≡ true)
     go true x true y z = (eqb-true _ _ x, y)
     go true x false y z = absurd (omega arith)
@@ -112,10 +114,10 @@ module _ (c : Canvas) (table names pixels old : List ℕ) where
   file = fileOf c table names pixels
 
   pub fitted : {new : List ℕ} → (leb (length file) (length old) && leb (length file) fileLimit) ≡ true
-      → new ≡ file ++ drop (length file) old → Fitted c table names pixels old (answered 0 0 (length file)) new
+      → new ≡ file ++ drop (length file) old → Fitted c table names pixels old (answered Refusal.accepted 0 (length file)) new
   unfolding writeAnswer writeOutput
   fitted t e = record { answer = rw t; output = e }
 
-  pub not-fitted : (leb (length file) (length old) && leb (length file) fileLimit) ≡ false → Fitted c table names pixels old (answered 18 0 0) old
+  pub not-fitted : (leb (length file) (length old) && leb (length file) fileLimit) ≡ false → Fitted c table names pixels old (answered Refusal.noRoom 0 0) old
   unfolding writeAnswer writeOutput
   not-fitted t = record { answer = rw t; output = refl }

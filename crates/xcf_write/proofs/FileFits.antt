@@ -10,9 +10,10 @@ use borrow.Author.Tests.{leb-true}
 use lib.ListN.{length, drop}
 use lib.Seq.{sets-eq}
 use lib.Dec.{leb}
+use Rattle.xcf_numbers.specs.Limit.{fileLimit}
+use Rattle.xcf_numbers.specs.Refusal
 use Rattle.xcf_store.specs.Put.{Put}
 use Rattle.xcf_table.specs.declared.canvas.Canvas.{Canvas}
-use Rattle.xcf_table.specs.Table.{fileLimit}
 use Rattle.xcf_write.specs.declared.WriteAnswer.{WriteAnswer}
 use Rattle.xcf_write.specs.File.{imageSize, fileBytes}
 use Rattle.xcf_body.specs.Rows.{drawablesFrom, usedRows}
@@ -41,12 +42,12 @@ module _ (c : Canvas) (table names pixels old : List ℕ) (n : ℕ) (e : n ≡ u
   size-is : size ≡ length (fileOf c table names pixels)
   size-is = m ∙ sym (file-length c (drawablesFrom table n 0 names pixels) s) ∙ ap length file-is
 
-  pub fits : {a : WriteAnswer} {end : ℕ} {new : List ℕ} → (leb size (length old) && leb size fileLimit) ≡ true → a ≡ answered 0 0 size
+  pub fits : {a : WriteAnswer} {end : ℕ} {new : List ℕ} → (leb size (length old) && leb size fileLimit) ≡ true → a ≡ answered Refusal.accepted 0 size
       → Put old 0 (fileBytes c (drawablesFrom table n 0 names pixels)) end new → Fitted c table names pixels old a new
   fits t a p =
       let room = fits-room size (length old) t in
       rw (a, size-is)
       (fitted c table names pixels old (rw size-is at t) (stored (omega (arith, size-is, room)) (rw file-is at p)))
 
-  pub fits-not : {a : WriteAnswer} → (leb size (length old) && leb size fileLimit) ≡ false → a ≡ answered 18 0 0 → Fitted c table names pixels old a old
+  pub fits-not : {a : WriteAnswer} → (leb size (length old) && leb size fileLimit) ≡ false → a ≡ answered Refusal.noRoom 0 0 → Fitted c table names pixels old a old
   fits-not t a = rw a (not-fitted c table names pixels old (rw size-is at t))

@@ -8,8 +8,9 @@ use native.Mathlib.Nat.{add-zero, zero-add}
 use native.Mathlib.Omega.{arith}
 use lib.ListN.{length, getD, length-append, length-map}
 use lib.Seq.{sets, sets-eq, length-sets, take-append-seam}
+use Rattle.xcf_numbers.specs.Limit.{fileLimit, tableRows, placesSize}
 use Rattle.xcf_table.specs.declared.Row.{Row}
-use Rattle.xcf_table.specs.Table.{rowAt, fileLimit}
+use Rattle.xcf_table.specs.Table.{rowAt}
 use Rattle.xcf_store.specs.Put.{Put}
 use Rattle.xcf_store.proofs.Stores.{put-append}
 use Rattle.xcf_table.specs.declared.canvas.Canvas.{Canvas}
@@ -56,11 +57,11 @@ unfolding placesFrom
 places-length [] p = refl
 places-length (d ∷ ds) p = ap suc (places-length ds (p + drawableSize d))
 
-pub places-long : (table names pixels old places : List ℕ) (n start : ℕ) → length old ≡ 129
-    → places ≡ sets old 0 (placesFrom (drawablesFrom table n 0 names pixels) start) → length places ≡ 129
+pub places-long : (table names pixels old places : List ℕ) (n start : ℕ) → length old ≡ placesSize
+    → places ≡ sets old 0 (placesFrom (drawablesFrom table n 0 names pixels) start) → length places ≡ placesSize
 places-long table names pixels old places n start long e = ap length e ∙ length-sets old 0 (placesFrom (drawablesFrom table n 0 names pixels) start) ∙ long
 
-pub places-stored : (table names pixels old places : List ℕ) (n start : ℕ) → n ≤ 128 → length old ≡ 129
+pub places-stored : (table names pixels old places : List ℕ) (n start : ℕ) → n ≤ tableRows → length old ≡ placesSize
     → places ≡ sets old 0 (placesFrom (drawablesFrom table n 0 names pixels) start) → Placed places 0 (drawablesFrom table n 0 names pixels) start
 places-stored table names pixels old places n start few long e =
     let ds = drawablesFrom table n 0 names pixels in

@@ -10,9 +10,11 @@ use native.Mathlib.Nat.{add-zero, zero-add}
 use native.Mathlib.Omega.{arith}
 use borrow.Author.Tests.{eqb-false}
 use lib.ListN.{length}
+use Rattle.xcf_numbers.specs.Limit.{tableRows}
+use Rattle.xcf_numbers.specs.Kind
 use Rattle.xcf_table.specs.Table.{rowAt}
 use Rattle.xcf_table.specs.declared.canvas.Canvas.{Canvas}
-use Rattle.xcf_usable.specs.Usable.{tableRows, isUnused, badRow}
+use Rattle.xcf_usable.specs.Usable.{isUnused, badRow}
 use Rattle.xcf_usable.proofs.AllUsable.{all-usable}
 use Rattle.xcf_usable.proofs.RowFacts.{DrawableFacts, drawable-facts}
 use Rattle.xcf_body.specs.Rows.{usedFrom, pixelsSize, usedRows}
@@ -28,23 +30,23 @@ module _ (table : List ℕ) where
       go true h = omega arith
       go false h = omega arith
 
-  pub used-most : usedRows table ≤ 128
+  pub used-most : usedRows table ≤ tableRows
   used-most = most-from tableRows 0
 
-  kind-from : (n j i : ℕ) → i < usedFrom table n j → rowAt table (j + i) .kind ≡ 0 → ⊥
+  kind-from : (n j i : ℕ) → i < usedFrom table n j → rowAt table (j + i) .kind ≡ Kind.unused → ⊥
   unfolding usedFrom
   kind-from zero j i h = absurd (omega arith)
   kind-from (suc n) j i h = go (isUnused (rowAt table j)) refl i (kind-from n (j + 1)) h
     where
-      go : (b : Bool) → isUnused (rowAt table j) ≡ b → (i : ℕ) {m : ℕ} → ((i : ℕ) → i < m → rowAt table (j + 1 + i) .kind ≡ 0 → ⊥)
-          → i < cond b 0 (suc m) → rowAt table (j + i) .kind ≡ 0 → ⊥
+      go : (b : Bool) → isUnused (rowAt table j) ≡ b → (i : ℕ) {m : ℕ} → ((i : ℕ) → i < m → rowAt table (j + 1 + i) .kind ≡ Kind.unused → ⊥)
+          → i < cond b 0 (suc m) → rowAt table (j + i) .kind ≡ Kind.unused → ⊥
       go true u i behind h = absurd (omega arith)
       go false u zero behind h = rw add-zero (eqb-false _ _ u)
       go false u (suc i) behind h =
           let e : j + suc i ≡ j + 1 + i = omega arith in
           rw e (behind i (omega arith))
 
-  pub used-kind : (k : ℕ) → k < usedRows table → rowAt table k .kind ≡ 0 → ⊥
+  pub used-kind : (k : ℕ) → k < usedRows table → rowAt table k .kind ≡ Kind.unused → ⊥
   used-kind k h = rw zero-add at (kind-from tableRows 0 k h)
 
 -- a table without a bad row

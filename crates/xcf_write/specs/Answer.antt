@@ -5,13 +5,25 @@ use mathlib.Core.List.{List, [], _∷_, _++_}
 use mathlib.Core.Bool.{cond, _&&_}
 use lib.ListN.{length, drop}
 use lib.Dec.{leb, eqb}
-use Rattle.xcf_table.specs.Table.{tableSize, fileLimit}
+use Rattle.xcf_numbers.specs.Limit.{fileLimit, tableRows, tableSize}
+use Rattle.xcf_numbers.specs.Base
+use Rattle.xcf_numbers.specs.Refusal
 use Rattle.xcf_table.specs.declared.canvas.Canvas.{Canvas}
 use Rattle.xcf_table.specs.Canvas.{sideOk}
-use Rattle.xcf_usable.specs.Usable.{tableRows, badRow}
+use Rattle.xcf_usable.specs.Usable.{badRow}
 use Rattle.xcf_write.specs.declared.WriteAnswer.{WriteAnswer}
 use Rattle.xcf_write.specs.File.{fileBytes}
 use Rattle.xcf_body.specs.Rows.{pixelsSize, drawablesFrom, usedRows}
+
+-- the places of the canvas's sides and base type in a file
+abbrev pub widthPlace : ℕ
+widthPlace = 14
+
+abbrev pub heightPlace : ℕ
+heightPlace = 18
+
+abbrev pub basePlace : ℕ
+basePlace = 22
 
 -- a number, its place and a length
 abbrev pub answered : ℕ → ℕ → ℕ → WriteAnswer
@@ -25,22 +37,26 @@ fileOf c table names pixels = fileBytes c (drawablesFrom table (usedRows table) 
 unfoldable pub rowsRefusal : Canvas → List ℕ → ℕ → ℕ → WriteAnswer
 rowsRefusal c table names pixels =
     cond (eqb (badRow c names table) tableRows)
-    (cond (eqb pixels (pixelsSize table (usedRows table) 0)) (answered 0 0 0) (answered 11 0 0))
-    (answered 17 (badRow c names table) 0)
+    (cond (eqb pixels (pixelsSize table (usedRows table) 0)) (answered Refusal.accepted 0 0) (answered Refusal.wrongBuffer 0 0))
+    (answered Refusal.badRow (badRow c names table) 0)
 
 -- and before that 11 for the table, 4 and 5
 unfoldable pub inputRefusal : Canvas → List ℕ → ℕ → ℕ → WriteAnswer
 inputRefusal c table names pixels =
     cond (eqb (length table) tableSize)
     (cond (sideOk (c .width))
-    (cond (sideOk (c .height)) (cond (leb (c .base) 1) (rowsRefusal c table names pixels) (answered 5 22 0)) (answered 4 18 0))
-    (answered 4 14 0))
-    (answered 11 0 0)
+    (cond (sideOk (c .height))
+    (cond (leb (c .base) Base.grey) (rowsRefusal c table names pixels) (answered Refusal.badBase basePlace 0))
+    (answered Refusal.badSide heightPlace 0))
+    (answered Refusal.badSide widthPlace 0))
+    (answered Refusal.wrongBuffer 0 0)
 
 -- then 18 where the file would exceed the lent output or the limit
 unfoldable pub writeAnswer : WriteAnswer → ℕ → ℕ → WriteAnswer
 writeAnswer refusal size room =
-    cond (eqb (refusal .number) 0) (cond (leb size room && leb size fileLimit) (answered 0 0 size) (answered 18 0 0)) refusal
+    cond (eqb (refusal .number) 0)
+    (cond (leb size room && leb size fileLimit) (answered Refusal.accepted 0 size) (answered Refusal.noRoom 0 0))
+    refusal
 
 -- the file at the output's start; the rest, and on a refusal all of it, as lent
 unfoldable pub writeOutput : WriteAnswer → List ℕ → List ℕ → List ℕ
@@ -59,7 +75,7 @@ writing c table names pixels output =
 
 -- the numbers that it answers
 abbrev pub writerNumbers : List ℕ
-writerNumbers = 0 ∷ 4 ∷ 5 ∷ 11 ∷ 17 ∷ 18 ∷ []
+writerNumbers = Refusal.accepted ∷ Refusal.badSide ∷ Refusal.badBase ∷ Refusal.wrongBuffer ∷ Refusal.badRow ∷ Refusal.noRoom ∷ []
 
 -- the writer's promise: its answer r, and the output's new content
 pub record Written (c : Canvas) (table names pixels old : List ℕ) (r : WriteAnswer) (new : List ℕ) : Type 0 where

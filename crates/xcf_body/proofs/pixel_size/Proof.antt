@@ -4,6 +4,7 @@ use mathlib.Core.Path.{refl}
 use native.Mathlib.Nat.{mul-le-mul}
 use native.Mathlib.Omega.{arith}
 use borrow.Author.Needs.{needs}
+use Rattle.xcf_body.specs.Parts.{pixelLimit}
 use Rattle.xcf_table.specs.declared.Row.{Row}
 use Rattle.xcf_grid.specs.Drawn.{pixelSize, InRange}
 use Rattle.xcf_body.proofs.pixel_size.Statement.{statement}
@@ -12,7 +13,7 @@ use Rattle.xcf_body.proofs.pixel_size.Tie as tie
 few-pixels : {r : Row} → InRange r → r .width * r .height ≤ 268435456
 few-pixels x = mul-le-mul (x .wide .1) (x .high .1)
 
-few-bytes : {r : Row} → InRange r → pixelSize r ≤ 1073741824
+few-bytes : {r : Row} → InRange r → pixelSize r ≤ pixelLimit
 few-bytes x = mul-le-mul (few-pixels x) (x .deep .1)
 
 cast-result : tie.Need-cast-result

@@ -2,7 +2,7 @@
 use Prim.Native.Nat.{_-_}
 use native.Mathlib.Omega.{arith}
 use borrow.Author.Needs.{needs}
-use Rattle.xcf_usable.specs.Usable.{tableRows}
+use Rattle.xcf_numbers.specs.Limit.{tableRows}
 use Rattle.xcf_body.proofs.RowsLoop.{UsedLeft, used-first, used-next, used-end, used-all}
 use Rattle.xcf_body.proofs.used_rows.Statement.{statement}
 use Rattle.xcf_body.proofs.used_rows.Tie as tie

@@ -3,6 +3,7 @@ use Prim.Native.Nat.{_+_, _-_}
 use mathlib.Core.Path.{_≡_, _∙_}
 use native.Mathlib.Omega.{arith}
 use lib.ListN.{length}
+use Rattle.xcf_numbers.specs.Limit.{tileSize, encodedSize}
 use Rattle.xcf_store.proofs.Stores.{put-length}
 use Rattle.xcf_drawable.proofs.EncodingBound.{few, tiled, encoding-bound}
 use Rattle.xcf_drawable.proofs.TilesMeasured.{Measuring, measuring-start, measuring-next, measuring-small, measuring-over}
@@ -11,7 +12,7 @@ use Rattle.xcf_drawable.proofs.measure_each.Tie as tie
 
 abbrev Inv-loop : tie.InvT-loop
 Inv-loop row pixels tile₀ encoded₀ t₀ size₀ tile encoded t size =
-    Measuring row pixels t size × ((length tile ≡ 16384) × (length encoded ≡ 16644))
+    Measuring row pixels t size × ((length tile ≡ tileSize) × (length encoded ≡ encodedSize))
 
 abbrev μ-loop : tie.MeasureT-loop
 μ-loop row pixels tile₀ encoded₀ t₀ size₀ tile encoded t size = row .count - t

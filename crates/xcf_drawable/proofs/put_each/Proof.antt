@@ -3,7 +3,7 @@ use Prim.Native.Nat.{ℕ, _+_, _-_, _≤_}
 use mathlib.Core.Path.{_≡_}
 use native.Mathlib.Omega.{arith}
 use lib.ListN.{length, length-take, length-drop}
-use Rattle.xcf_table.specs.Table.{fileLimit}
+use Rattle.xcf_numbers.specs.Limit.{fileLimit, tileSize}
 use Rattle.xcf_drawable.specs.Drawable.{encodingOf}
 use Rattle.xcf_drawable.proofs.EncodingBound.{few, tiled}
 use Rattle.xcf_drawable.proofs.TilesStored.{Storing, storing-start, next-room, next-tile, storing-tile, storing-behind, storing-over}
@@ -12,7 +12,7 @@ use Rattle.xcf_drawable.proofs.put_each.Tie as tie
 
 abbrev Inv-loop : tie.InvT-loop
 Inv-loop output₀ link first row pixels tile₀ t₀ at₀ to₀ output tile t at to =
-    Storing row pixels output₀ link first output t at to × (length tile ≡ 16384)
+    Storing row pixels output₀ link first output t at to × (length tile ≡ tileSize)
 
 abbrev μ-loop : tie.MeasureT-loop
 μ-loop output₀ link first row pixels tile₀ t₀ at₀ to₀ output tile t at to = row .count - t

@@ -4,6 +4,7 @@ use mathlib.Core.Bool.{true}
 use Prim.Native.Nat.{_*_, _≤_}
 use native.Mathlib.Omega.{arith}
 use borrow.Author.Needs.{needs}
+use Rattle.xcf_numbers.specs.Limit.{depthLimit, streamLimit, tileSize}
 use Rattle.xcf_encode.proofs.Answers.{unusable, other-length, tile-encoded}
 use Rattle.xcf_tile.proofs.Sizes.{usable-bounds}
 use Rattle.xcf_laws.proofs.Products.{small}
@@ -11,7 +12,7 @@ use Rattle.xcf_encode.proofs.encode_tile.Statement.{statement}
 use Rattle.xcf_encode.proofs.encode_tile.Tie as tie
 
 -- the bounds of a usable tile
-sizes : (c : tie.After-usable-tile) → c .usable-tile .result ≡ true → let a = c .before .before .before .args in (a .width * a .height ≤ 4096) × ((a .width * a .height * a .depth ≤ 16384) × (a .depth ≤ 4))
+sizes : (c : tie.After-usable-tile) → c .usable-tile .result ≡ true → let a = c .before .before .before .args in (a .width * a .height ≤ streamLimit) × ((a .width * a .height * a .depth ≤ tileSize) × (a .depth ≤ depthLimit))
 sizes c t =
     let a = c .before .before .before .args in
     let b = usable-bounds (a .width) (a .height) (a .depth) (sym (c .usable-tile .ensures) ∙ t) in

@@ -4,6 +4,7 @@ use mathlib.Core.List.{List}
 use native.Mathlib.Omega.{arith}
 use borrow.Author.Needs.{needs}
 use lib.ListN.{set, length-append}
+use Rattle.xcf_numbers.specs.Kind
 use Rattle.xcf_table.specs.declared.Row.{Row}
 use Rattle.xcf_table.specs.declared.canvas.Canvas.{Canvas}
 use Rattle.xcf_store.proofs.Stores.{put-one, put-length}
@@ -53,7 +54,7 @@ abbrev Left : tie.Start → (Canvas → ℕ → List ℕ → List ℕ → List �
 Left s on next output =
     let ps = s .args .places .now in
     PartsLeft (s .args .output .now) 0 (imageOf (s .args .canvas) (rows s) ps)
-    (on (s .args .canvas) (versionOf (rows s)) (kindPlaces 1 (rows s) ps) (kindPlaces 3 (rows s) ps)) next output
+    (on (s .args .canvas) (versionOf (rows s)) (kindPlaces Kind.layer (rows s) ps) (kindPlaces Kind.channel (rows s) ps)) next output
 
 magic-left : (s : tie.Start) → Left s magicOn 0 (s .args .output .now)
 magic-left s = parts-first (image-parts _ _ _ _) (omega (arith, s .pre .1 .1))

@@ -5,6 +5,7 @@ use mathlib.Core.Bool.{true, cond, _&&_}
 use borrow.Author.Tests.{eq-eqb, ne-eqb}
 use lib.Dec.{leb, eqb}
 use borrow.Author.Needs.{needs}
+use Rattle.xcf_numbers.specs.PropertyType
 use Rattle.xcf_property.specs.Property.{layerList, allowed}
 use Rattle.xcf_property.proofs.allowed.Statement.{statement}
 use Rattle.xcf_property.proofs.allowed.Tie as tie
@@ -26,7 +27,7 @@ returns-3 c = rw (ne-eqb _ _ (c .before .before .if1 .left), ne-eqb _ _ (c .befo
 
 neither : (c : tie.Else3)
     → let a = c .before .before .before .args in
-    allowed (a .list) (a .kind) (a .v) ≡ cond (eqb (a .list) layerList && eqb (a .kind) 11) (leb (a .v) 1) true
+    allowed (a .list) (a .kind) (a .v) ≡ cond (eqb (a .list) layerList && eqb (a .kind) PropertyType.apply) (leb (a .v) 1) true
 unfolding allowed
 neither c = rw (ne-eqb _ _ (c .before .before .if1 .left), ne-eqb _ _ (c .before .if2 .left), ne-eqb _ _ (c .if3 .left))
 

@@ -7,7 +7,7 @@ use borrow.Author.Tests.{lt-leb, eq-eqb, ne-eqb}
 use lib.Dec.{leb}
 use lib.ListN.{length}
 use borrow.Author.Needs.{needs}
-use Rattle.xcf_table.specs.Table.{fileLimit}
+use Rattle.xcf_numbers.specs.Limit.{fileLimit}
 use Rattle.xcf_read.specs.Answer.{reading}
 use Rattle.xcf_read.proofs.Decided.{accepted, not-accepted}
 use Rattle.xcf_read.proofs.read.Statement.{statement}

@@ -7,9 +7,10 @@ use native.Mathlib.Numerals.{add-one}
 use native.Mathlib.Omega.{arith}
 use lib.ListN.{length, take, replicate, set, length-set}
 use lib.Seq.{append-snoc, take-all, take-suc-set}
+use Rattle.xcf_numbers.specs.Limit.{rowSize}
 use Rattle.xcf_table.proofs.clear_from.Statement.{statement}
 use Rattle.xcf_table.proofs.clear_from.Tie as tie
-use Rattle.xcf_table.specs.Table.{rowSize, clearFrom}
+use Rattle.xcf_table.specs.Table.{clearFrom}
 
 -- a number cleared is one zero less to come
 one-cleared : (t : List ℕ) (i n : ℕ) → i < length t → i < n → take (i + 1) (set t i 0) ++ replicate (n - (i + 1)) 0 ≡ take i t ++ replicate (n - i) 0

@@ -4,7 +4,8 @@ use native.Mathlib.Omega.{arith}
 use borrow.Author.Tests.{le-leb, lt-leb}
 use lib.ListN.{length}
 use borrow.Author.Needs.{needs}
-use Rattle.xcf_table.specs.Table.{rowSize, putRow}
+use Rattle.xcf_numbers.specs.Limit.{rowSize}
+use Rattle.xcf_table.specs.Table.{putRow}
 use Rattle.xcf_table.proofs.put_row.Statement.{statement}
 use Rattle.xcf_table.proofs.put_row.Tie as tie
 

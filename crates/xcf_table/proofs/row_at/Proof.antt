@@ -4,7 +4,8 @@ use native.Mathlib.Omega.{arith}
 use borrow.Author.Tests.{le-leb, lt-leb}
 use lib.ListN.{length}
 use borrow.Author.Needs.{needs}
-use Rattle.xcf_table.specs.Table.{rowSize, rowAt}
+use Rattle.xcf_numbers.specs.Limit.{rowSize}
+use Rattle.xcf_table.specs.Table.{rowAt}
 use Rattle.xcf_table.proofs.row_at.Statement.{statement}
 use Rattle.xcf_table.proofs.row_at.Tie as tie
 

@@ -1,5 +1,6 @@
 -- `usable_tile` meets its contract: each test that is passed or failed is one of the definition's, in its order.
 use borrow.Author.Needs.{needs}
+use Rattle.xcf_numbers.specs.Limit.{depthLimit, tileSide}
 use Rattle.xcf_tile.specs.Answer.{usableTile}
 use Rattle.xcf_range.proofs.Bounds.{is-within, is-outside}
 use Rattle.xcf_tile.proofs.usable_tile.Statement.{statement}
@@ -10,7 +11,7 @@ outside-requires c κs = search needs
 
 returns : tie.Need-returns
 unfolding usableTile
-returns c = let a = c .before .before .args in simp (is-outside 1 64 (a .width) (c .before .outside .ensures) (c .if1 .taken))
+returns c = let a = c .before .before .args in simp (is-outside 1 tileSide (a .width) (c .before .outside .ensures) (c .if1 .taken))
 
 outside-requires-2 : tie.Need-outside-requires-2
 outside-requires-2 c κs = search needs
@@ -19,7 +20,7 @@ returns-2 : tie.Need-returns-2
 unfolding usableTile
 returns-2 c =
     let a = c .before .before .before .before .args in
-    simp (is-within 1 64 (a .width) (c .before .before .before .outside .ensures) (c .before .before .if1 .left), is-outside 1 64 (a .height) (c .before .outside2 .ensures) (c .if2 .taken))
+    simp (is-within 1 tileSide (a .width) (c .before .before .before .outside .ensures) (c .before .before .if1 .left), is-outside 1 tileSide (a .height) (c .before .outside2 .ensures) (c .if2 .taken))
 
 outside-requires-3 : tie.Need-outside-requires-3
 outside-requires-3 c κs = search needs
@@ -28,13 +29,13 @@ returns-3 : tie.Need-returns-3
 unfolding usableTile
 returns-3 c =
     let a = c .before .before .before .before .before .before .args in
-    simp (is-within 1 64 (a .width) (c .before .before .before .before .before .outside .ensures) (c .before .before .before .before .if1 .left), is-within 1 64 (a .height) (c .before .before .before .outside2 .ensures) (c .before .before .if2 .left), is-outside 1 4 (a .depth) (c .before .outside3 .ensures) (c .if3 .taken))
+    simp (is-within 1 tileSide (a .width) (c .before .before .before .before .before .outside .ensures) (c .before .before .before .before .if1 .left), is-within 1 tileSide (a .height) (c .before .before .before .outside2 .ensures) (c .before .before .if2 .left), is-outside 1 depthLimit (a .depth) (c .before .outside3 .ensures) (c .if3 .taken))
 
 returns-4 : tie.Need-returns-4
 unfolding usableTile
 returns-4 c =
     let a = c .before .before .before .before .before .before .args in
-    simp (is-within 1 64 (a .width) (c .before .before .before .before .before .outside .ensures) (c .before .before .before .before .if1 .left), is-within 1 64 (a .height) (c .before .before .before .outside2 .ensures) (c .before .before .if2 .left), is-within 1 4 (a .depth) (c .before .outside3 .ensures) (c .if3 .left))
+    simp (is-within 1 tileSide (a .width) (c .before .before .before .before .before .outside .ensures) (c .before .before .before .before .if1 .left), is-within 1 tileSide (a .height) (c .before .before .before .outside2 .ensures) (c .before .before .if2 .left), is-within 1 depthLimit (a .depth) (c .before .outside3 .ensures) (c .if3 .left))
 
 pub usable-tile-spec : {M : Type 1} → statement M
 usable-tile-spec =

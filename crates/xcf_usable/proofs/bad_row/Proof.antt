@@ -1,7 +1,7 @@
 -- `bad_row` meets its contract: `Left` holds at the loop's head.
 use Prim.Native.Nat.{_-_}
 use borrow.Author.Needs.{needs}
-use Rattle.xcf_usable.specs.Usable.{tableRows}
+use Rattle.xcf_numbers.specs.Limit.{tableRows}
 use Rattle.xcf_usable.proofs.BadLoop.{Left, left-first, left-next, left-bad, left-over}
 use Rattle.xcf_usable.proofs.bad_row.Statement.{statement}
 use Rattle.xcf_usable.proofs.bad_row.Tie as tie

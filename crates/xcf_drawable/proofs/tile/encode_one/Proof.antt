@@ -4,6 +4,7 @@ use mathlib.Core.Path.{_≡_, sym}
 use lib.ListN.{length}
 use lib.Seq.{length-take-le}
 use borrow.Author.Needs.{needs}
+use Rattle.xcf_numbers.specs.Limit.{tileSize}
 use Rattle.xcf_grid.specs.Grid.{tileWidth, tileHeight}
 use Rattle.xcf_drawable.proofs.TileEncoding.{tile-there, tile-encoded}
 use Rattle.xcf_drawable.proofs.tile.encode_one.Statement.{statement}
@@ -28,7 +29,7 @@ high : (c : tie.After-side-of2) → c .side-of2 .result
 high c = rw (c .before .before .tiles-along .ensures .0) at (c .side-of2 .ensures)
 
 there : (c : tie.After-take-tile) → let tile = c .take-tile .last .1 .1 .1 .1 .1 .0 in
-    (c .take-tile .result ≤ length tile) × (length tile ≡ 16384)
+    (c .take-tile .result ≤ length tile) × (length tile ≡ tileSize)
 there c = let p = begin (sides c) .pre in tile-there (p .0 .0) (p .0 .1) (c .take-tile .ensures)
 
 tiles-along-requires : tie.Need-tiles-along-requires

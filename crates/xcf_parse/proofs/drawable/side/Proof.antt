@@ -6,6 +6,7 @@ use native.Mathlib.Omega.{arith}
 use borrow.Author.Tests.{leb-true}
 use borrow.Author.Needs.{needs}
 use lib.Dec.{leb}
+use Rattle.xcf_numbers.specs.Limit.{sideLimit}
 use Rattle.xcf_walk.specs.Cursor.{Leads}
 use Rattle.xcf_walk.proofs.Resume.{then, then-here, ends, any-value, by-check}
 use Rattle.xcf_walk.proofs.Within.{check-keeps}
@@ -14,9 +15,9 @@ use Rattle.xcf_parse.specs.Drawable.{side}
 use Rattle.xcf_parse.proofs.drawable.side.Statement.{statement}
 use Rattle.xcf_parse.proofs.drawable.side.Tie as tie
 
-side-small : (n : ℕ) → sideOk n ≡ true → n ≤ 16384
+side-small : (n : ℕ) → sideOk n ≡ true → n ≤ sideLimit
 unfolding sideOk
-side-small n e = leb-true _ _ (and-eq-true-iff (leb 1 n) (leb n 16384) .0 e .1)
+side-small n e = leb-true _ _ (and-eq-true-iff (leb 1 n) (leb n sideLimit) .0 e .1)
 
 leads : (c : tie.After-check)
     → let read = c .before .before in

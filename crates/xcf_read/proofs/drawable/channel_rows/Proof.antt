@@ -5,12 +5,13 @@ use mathlib.Core.List.{List}
 use native.Mathlib.Omega.{arith}
 use borrow.Author.Needs.{needs}
 use lib.ListN.{length}
+use Rattle.xcf_numbers.specs.Limit.{rowSize}
 use Rattle.xcf_walk.specs.declared.cursor.Cursor.{Cursor}
 use Rattle.xcf_walk.specs.Walk.{Walk}
 use Rattle.xcf_walk.specs.Cursor.{Leads}
 use Rattle.xcf_walk.proofs.Resume.{then, ends, by-jump}
 use Rattle.xcf_table.specs.declared.Row.{Row}
-use Rattle.xcf_table.specs.Table.{Rows, rowSize, addRow, putRow, rowsIn}
+use Rattle.xcf_table.specs.Table.{Rows, addRow, putRow, rowsIn}
 use Rattle.xcf_table.proofs.Puts.{put-adds, put-length}
 use Rattle.xcf_read.specs.Drawable.{channelRows}
 use Rattle.xcf_read.specs.Parts.{Filled}

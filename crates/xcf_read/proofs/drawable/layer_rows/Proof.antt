@@ -4,8 +4,8 @@ use mathlib.Core.Path.{_∙_}
 use native.Mathlib.Omega.{arith}
 use borrow.Author.Needs.{needs}
 use lib.ListN.{length}
+use Rattle.xcf_numbers.specs.Limit.{rowSize}
 use Rattle.xcf_walk.proofs.Resume.{then, by-jump}
-use Rattle.xcf_table.specs.Table.{rowSize}
 use Rattle.xcf_table.proofs.Puts.{put-adds, put-length}
 use Rattle.xcf_read.specs.Drawable.{layerRows}
 use Rattle.xcf_read.proofs.drawable.layer_rows.Statement.{statement}

@@ -4,6 +4,7 @@ use Prim.Native.Nat.{_≤_}
 use mathlib.Core.Path.{_∙_}
 use native.Mathlib.Omega.{arith}
 use borrow.Author.Needs.{needs}
+use Rattle.xcf_numbers.specs.Limit.{sideLimit}
 use Rattle.xcf_walk.proofs.Resume.{then, ends}
 use Rattle.xcf_walk.proofs.Within.{live-before}
 use Rattle.xcf_read.specs.Image.{canvasOf, image}
@@ -23,7 +24,7 @@ pointers-requires-2 c κs = search needs
 canvas-of-requires : tie.Need-canvas-of-requires
 canvas-of-requires c κs = search needs
 
-canvas-small : (c : tie.After-canvas-of) → (c .canvas-of .result .width ≤ 16384) × (c .canvas-of .result .height ≤ 16384)
+canvas-small : (c : tie.After-canvas-of) → (c .canvas-of .result .width ≤ sideLimit) × (c .canvas-of .result .height ≤ sideLimit)
 unfolding canvasOf
 canvas-small c = rw (c .canvas-of .ensures) (c .before .before .before .before .read-head .ensures .1)
 

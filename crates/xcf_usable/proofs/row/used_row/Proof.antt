@@ -2,6 +2,7 @@
 use native.Mathlib.Omega.{arith}
 use borrow.Author.Tests.{eq-eqb, ne-eqb}
 use borrow.Author.Needs.{needs}
+use Rattle.xcf_numbers.specs.Kind
 use Rattle.xcf_usable.specs.Usable.{usableRow}
 use Rattle.xcf_usable.proofs.row.used_row.Statement.{statement}
 use Rattle.xcf_usable.proofs.row.used_row.Tie as tie
@@ -19,7 +20,7 @@ returns : tie.Need-returns
 unfolding usableRow
 returns c =
     let row = c .before .before .before .before .before .args .row in
-    rw (ne-eqb (row .kind) 0 (λ e. omega arith), eq-eqb (row .kind) 1 (c .before .before .before .if1 .taken), c .before .before .drawable-ok .ensures, c .before .layer-ok .ensures, c .layer-follows .ensures)
+    rw (ne-eqb (row .kind) Kind.unused (λ e. omega arith), eq-eqb (row .kind) Kind.layer (c .before .before .before .if1 .taken), c .before .before .drawable-ok .ensures, c .before .layer-ok .ensures, c .layer-follows .ensures)
 
 drawable-ok-requires-2 : tie.Need-drawable-ok-requires-2
 drawable-ok-requires-2 c κs = search needs
@@ -34,7 +35,7 @@ returns-2 : tie.Need-returns-2
 unfolding usableRow
 returns-2 c =
     let row = c .before .before .before .before .before .before .before .args .row in
-    rw (ne-eqb (row .kind) 0 (λ e. omega arith), ne-eqb (row .kind) 1 (c .before .before .before .before .before .if1 .left), eq-eqb (row .kind) 2 (c .before .before .if2 .taken), c .before .before .before .before .drawable-ok2 .ensures, c .before .channel-ok .ensures, c .mask-follows .ensures)
+    rw (ne-eqb (row .kind) Kind.unused (λ e. omega arith), ne-eqb (row .kind) Kind.layer (c .before .before .before .before .before .if1 .left), eq-eqb (row .kind) Kind.mask (c .before .before .if2 .taken), c .before .before .before .before .drawable-ok2 .ensures, c .before .channel-ok .ensures, c .mask-follows .ensures)
 
 channel-ok-requires-2 : tie.Need-channel-ok-requires-2
 channel-ok-requires-2 c κs = search needs
@@ -46,7 +47,7 @@ returns-3 : tie.Need-returns-3
 unfolding usableRow
 returns-3 c =
     let row = c .before .before .before .before .before .before .before .before .args .row in
-    rw (ne-eqb (row .kind) 0 (λ e. omega arith), ne-eqb (row .kind) 1 (c .before .before .before .before .before .before .if1 .left), ne-eqb (row .kind) 2 (c .before .before .before .if2 .left), c .before .before .before .before .before .drawable-ok2 .ensures, c .before .channel-ok2 .ensures, c .channel-follows .ensures)
+    rw (ne-eqb (row .kind) Kind.unused (λ e. omega arith), ne-eqb (row .kind) Kind.layer (c .before .before .before .before .before .before .if1 .left), ne-eqb (row .kind) Kind.mask (c .before .before .before .if2 .left), c .before .before .before .before .before .drawable-ok2 .ensures, c .before .channel-ok2 .ensures, c .channel-follows .ensures)
 
 pub used-row-spec : {M : Type 1} → statement M
 used-row-spec =

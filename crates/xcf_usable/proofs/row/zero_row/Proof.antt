@@ -5,7 +5,8 @@ use native.Mathlib.Omega.{arith}
 use borrow.Author.Tests.{lt-leb}
 use lib.ListN.{length}
 use borrow.Author.Needs.{needs}
-use Rattle.xcf_table.specs.Table.{rowSize, rowAt}
+use Rattle.xcf_numbers.specs.Limit.{rowSize}
+use Rattle.xcf_table.specs.Table.{rowAt}
 use Rattle.xcf_usable.specs.Usable.{allZero}
 use Rattle.xcf_usable.proofs.ZeroRow.{row-part}
 use Rattle.xcf_usable.proofs.row.zero_row.Statement.{statement}

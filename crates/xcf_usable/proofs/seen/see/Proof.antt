@@ -5,6 +5,8 @@ use mathlib.Core.Bool.{Bool, cond}
 use native.Mathlib.Omega.{arith}
 use lib.Dec.{eqb}
 use borrow.Author.Needs.{needs}
+use Rattle.xcf_numbers.specs.Limit.{tableRows}
+use Rattle.xcf_numbers.specs.Kind
 use Rattle.xcf_usable.proofs.Counts.{seen-next, one-most, CountsMost, seen-most}
 use Rattle.xcf_usable.proofs.seen.see.Statement.{statement}
 use Rattle.xcf_usable.proofs.seen.see.Tie as tie
@@ -12,7 +14,7 @@ use Rattle.xcf_usable.proofs.seen.see.Tie as tie
 counts : (c : tie.Start) → CountsMost (c .args .seen) (c .args .k)
 counts c = rw (c .pre .1) (seen-most (c .args .table .now) (c .args .k))
 
-adds-one : (b : Bool) {n m k : ℕ} → n ≤ k → k < 128 → m ≡ cond b 1 0 → n + m ≤ 128
+adds-one : (b : Bool) {n m k : ℕ} → n ≤ k → k < tableRows → m ≡ cond b 1 0 → n + m ≤ tableRows
 adds-one b low few e = omega (arith, one-most b)
 
 row-at-requires : tie.Need-row-at-requires
@@ -25,7 +27,7 @@ add-t7 : tie.Need-add-t7
 add-t7 c =
     let start = c .before .before .before .before .before in
     let row = c .before .before .before .row-at .result in
-    let adds = adds-one (eqb (row .kind) 1) (counts start .layers) (start .pre .0) (c .before .one .ensures) in
+    let adds = adds-one (eqb (row .kind) Kind.layer) (counts start .layers) (start .pre .0) (c .before .one .ensures) in
     omega arith
 
 one-requires-2 : tie.Need-one-requires-2
@@ -35,7 +37,7 @@ add-t10 : tie.Need-add-t10
 add-t10 c =
     let start = c .before .before .before .before .before .before .before .before in
     let row = c .before .before .before .before .before .before .row-at .result in
-    let adds = adds-one (eqb (row .kind) 3) (counts start .channels) (start .pre .0) (c .before .one2 .ensures) in
+    let adds = adds-one (eqb (row .kind) Kind.channel) (counts start .channels) (start .pre .0) (c .before .one2 .ensures) in
     omega arith
 
 one-requires-3 : tie.Need-one-requires-3
@@ -45,7 +47,7 @@ add-t13 : tie.Need-add-t13
 add-t13 c =
     let start = c .before .before .before .before .before .before .before .before .before .before .before in
     let row = c .before .before .before .before .before .before .before .before .before .row-at .result in
-    let adds = adds-one (eqb (row .kind) 0) (counts start .unused) (start .pre .0) (c .before .one3 .ensures) in
+    let adds = adds-one (eqb (row .kind) Kind.unused) (counts start .unused) (start .pre .0) (c .before .one3 .ensures) in
     omega arith
 
 is-active-layer-requires : tie.Need-is-active-layer-requires

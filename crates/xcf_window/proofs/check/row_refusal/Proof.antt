@@ -4,7 +4,7 @@ use native.Mathlib.Omega.{arith}
 use borrow.Author.Needs.{needs}
 use borrow.Author.Tests.{le-leb, lt-leb, eq-eqb, ne-eqb}
 use lib.ListN.{length}
-use Rattle.xcf_table.specs.Table.{fileLimit, tableSize}
+use Rattle.xcf_numbers.specs.Limit.{fileLimit, tableSize}
 use Rattle.xcf_window.specs.Usable.{rowRefusal}
 use Rattle.xcf_window.proofs.check.row_refusal.Statement.{statement}
 use Rattle.xcf_window.proofs.check.row_refusal.Tie as tie

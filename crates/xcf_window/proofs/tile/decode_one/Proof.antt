@@ -6,12 +6,13 @@ use native.Mathlib.Omega.{arith}
 use borrow.Author.Needs.{needs}
 use lib.ListN.{length}
 use lib.Seq.{length-take-le}
+use Rattle.xcf_numbers.specs.Limit.{streamLimit, tileSize}
 use Rattle.xcf_window.proofs.OneTile.{pointers-inside, mark-small, pixels-small, scratched}
 use Rattle.xcf_window.proofs.TilePointers.{window-inside}
 use Rattle.xcf_window.proofs.tile.decode_one.Statement.{statement}
 use Rattle.xcf_window.proofs.tile.decode_one.Tie as tie
 
-pixels-fit : (s : tie.Start) → (s .args .frame .width * s .args .frame .height ≤ 4096) × (s .args .frame .width * s .args .frame .height * s .args .row .depth ≤ 16384)
+pixels-fit : (s : tie.Start) → (s .args .frame .width * s .args .frame .height ≤ streamLimit) × (s .args .frame .width * s .args .frame .height * s .args .row .depth ≤ tileSize)
 pixels-fit s = let p = s .pre in pixels-small (p .0) (p .1 .0) (p .1 .1)
 
 window-in-file : (w : tie.After-window-end) → (w .before .pointer-at .result < w .window-end .result) × (w .window-end .result ≤ length (w .before .before .before .before .args .file .now))

@@ -4,7 +4,8 @@ use mathlib.Core.Bool.{cond}
 use borrow.Author.Needs.{needs}
 use borrow.Author.Tests.{eq-eqb, ne-eqb, le-leb, lt-leb}
 use lib.Dec.{leb}
-use Rattle.xcf_write.specs.Answer.{answered, rowsRefusal, inputRefusal}
+use Rattle.xcf_numbers.specs.Refusal
+use Rattle.xcf_write.specs.Answer.{answered, rowsRefusal, inputRefusal, heightPlace, basePlace}
 use Rattle.xcf_write.proofs.check.input_refusal.Statement.{statement}
 use Rattle.xcf_write.proofs.check.input_refusal.Tie as tie
 
@@ -12,8 +13,8 @@ use Rattle.xcf_write.proofs.check.input_refusal.Tie as tie
 to-height : (c : tie.After-side-ok2) → let a = c .before .before .before .before .before .args in
     inputRefusal (a .canvas) (a .table .now) (a .names) (a .pixels)
     ≡ cond (c .side-ok2 .result)
-    (cond (leb (a .canvas .base) 1) (rowsRefusal (a .canvas) (a .table .now) (a .names) (a .pixels)) (answered 5 22 0))
-    (answered 4 18 0)
+    (cond (leb (a .canvas .base) 1) (rowsRefusal (a .canvas) (a .table .now) (a .names) (a .pixels)) (answered Refusal.badBase basePlace 0))
+    (answered Refusal.badSide heightPlace 0)
 unfolding inputRefusal
 to-height c =
     let wide = c .before .before in

@@ -1,7 +1,8 @@
 -- `rows_refusal` meets its contract, by the lowest bad row and then the number of pixels.
 use mathlib.Core.Path.{_≡_, sym, _∙_}
 use borrow.Author.Needs.{needs}
-use Rattle.xcf_usable.specs.Usable.{tableRows, badRow}
+use Rattle.xcf_numbers.specs.Limit.{tableRows}
+use Rattle.xcf_usable.specs.Usable.{badRow}
 use Rattle.xcf_write.proofs.RowsUsed.{used-range}
 use Rattle.xcf_write.proofs.Refusals.{bad-refused, Counted, none-refused, pixels-refused}
 use Rattle.xcf_write.proofs.check.rows_refusal.Statement.{statement}

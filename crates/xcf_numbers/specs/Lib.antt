@@ -1,0 +1,7 @@
+pub mod Refusal
+pub mod Mark
+pub mod Kind
+pub mod Base
+pub mod PropertyType
+pub mod Flag
+pub mod Limit

@@ -1,0 +1,13 @@
+-- The marks of tiles.
+use Prim.Native.Nat.{ℕ}
+
+abbrev pub good : ℕ
+good = 0
+
+-- the window ends too soon
+abbrev pub short : ℕ
+short = 20
+
+-- an operation runs over the end of its stream
+abbrev pub overrun : ℕ
+overrun = 21

@@ -1,0 +1,77 @@
+-- The numbers given back: document 01's table of refusals.
+use Prim.Native.Nat.{ℕ}
+
+abbrev pub accepted : ℕ
+accepted = 0
+
+-- a field or payload runs past the file's end
+abbrev pub pastEnd : ℕ
+pastEnd = 1
+
+-- the first 9 bytes are not "gimp xcf "
+abbrev pub notXcf : ℕ
+notXcf = 2
+
+-- the version's tag is not known
+abbrev pub badVersion : ℕ
+badVersion = 3
+
+-- a side is 0 or above the limit
+abbrev pub badSide : ℕ
+badSide = 4
+
+-- a base type that the version does not have, or that is not written
+abbrev pub badBase : ℕ
+badBase = 5
+
+-- a known property has a wrong length
+abbrev pub badLength : ℕ
+badLength = 6
+
+-- a property's content is not allowed
+abbrev pub badContent : ℕ
+badContent = 7
+
+-- a layer or channel over the limit
+abbrev pub tooMany : ℕ
+tooMany = 8
+
+-- a hierarchy or first level pointer is 0
+abbrev pub noPointer : ℕ
+noPointer = 9
+
+-- a type, size or depth disagrees with its owner
+abbrev pub disagrees : ℕ
+disagrees = 10
+
+-- a lent buffer has the wrong length
+abbrev pub wrongBuffer : ℕ
+wrongBuffer = 11
+
+-- a string does not end in a zero byte
+abbrev pub unendedString : ℕ
+unendedString = 12
+
+-- a bad tile pointer or closing word
+abbrev pub badTilePointer : ℕ
+badTilePointer = 13
+
+-- a row or tile given to the decoder is unusable
+abbrev pub unusable : ℕ
+unusable = 14
+
+-- the file is too long
+abbrev pub tooLong : ℕ
+tooLong = 15
+
+-- a layer is a floating selection
+abbrev pub floating : ℕ
+floating = 16
+
+-- a row given to the writer is unusable
+abbrev pub badRow : ℕ
+badRow = 17
+
+-- the file would exceed the lent output or the file limit
+abbrev pub noRoom : ℕ
+noRoom = 18

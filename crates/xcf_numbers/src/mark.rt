@@ -1,0 +1,8 @@
+// The marks of tiles.
+pub const GOOD: u64 = 0;
+
+// The window ends too soon.
+pub const SHORT: u64 = 20;
+
+// An operation runs over the end of its stream.
+pub const OVERRUN: u64 = 21;
