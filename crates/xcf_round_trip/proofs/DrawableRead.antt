@@ -10,6 +10,7 @@ use native.Mathlib.Omega.{arith}
 use borrow.Author.Tests.{ne-eqb, eq-eqb}
 use lib.Dec.{eqb}
 use lib.ListN.{length}
+use Rattle.xcf_numbers.specs.Flag
 use Rattle.xcf_numbers.specs.Limit.{fileLimit}
 use Rattle.xcf_numbers.specs.Kind
 use Rattle.xcf_store.specs.Pointer.{pointerSize}
@@ -78,18 +79,18 @@ layer-flags : {c : Canvas} {k : ℕ} (r : Row) (hasMask : Bool) (place : ℕ) �
     → layerFlags (propertiesOf r hasMask) (cond hasMask place 0) ≡ r .flags
 unfolding layerFlags
 layer-flags r hasMask place facts some =
-    let seen = flag-of (visible r) 1 (omega arith) in
-    let used = flag-of (apply r) 2 (omega arith) in
-    let chosen = flag-of (active r) 8 (omega arith) in
-    let group = flag-of 0 16 (omega arith) in
+    let seen = flag-of (visible r) Flag.visible (omega arith) in
+    let used = flag-of (apply r) Flag.apply (omega arith) in
+    let chosen = flag-of (active r) Flag.active (omega arith) in
+    let group = flag-of 0 Flag.group (omega arith) in
     rw (applied hasMask place (apply r) some (facts .applied)) (omega (arith, facts .flags))
 
 channel-flags : (r : Row) (hasMask : Bool) → ChannelFacts r → channelFlags (propertiesOf r hasMask) ≡ r .flags
 unfolding channelFlags
 channel-flags r hasMask facts =
-    let seen = flag-of (visible r) 1 (omega arith) in
-    let selected = flag-of (selection r) 4 (omega arith) in
-    let chosen = flag-of (active r) 8 (omega arith) in
+    let seen = flag-of (visible r) Flag.visible (omega arith) in
+    let selected = flag-of (selection r) Flag.selection (omega arith) in
+    let chosen = flag-of (active r) Flag.active (omega arith) in
     omega (arith, facts .flags)
 
 -- a drawable that is a layer

@@ -9,6 +9,8 @@ use native.Mathlib.Omega.{arith}
 use borrow.Author.Tests.{eqb-true, eqb-false, le-leb}
 use lib.Dec.{eqb}
 use lib.ListN.{length}
+use Rattle.xcf_numbers.specs.Flag
+use Rattle.xcf_numbers.specs.Flag.{flagSet}
 use Rattle.xcf_numbers.specs.Limit.{fullOpacity}
 use Rattle.xcf_numbers.specs.PropertyType
 use Rattle.xcf_property.specs.declared.Content.{Content}
@@ -18,7 +20,7 @@ use Rattle.xcf_property.specs.Property.{imageList, lengthOk, contentOf, allowed
 use Rattle.xcf_walk.specs.Property.{properties}
 use Rattle.xcf_laws.proofs.Cases.{cond-same, by-cases}
 use Rattle.xcf_table.specs.declared.Row.{Row}
-use Rattle.xcf_usable.specs.Usable.{isLayer, apply, selection, active}
+use Rattle.xcf_usable.specs.Usable.{isLayer, apply}
 use Rattle.xcf_structure.specs.Structure.{Property, propertyBytes, listBytes, worded, drawableProperties}
 use Rattle.xcf_image.specs.Image.{imageProperties}
 use Rattle.xcf_store.proofs.Words.{words-length}
@@ -145,32 +147,32 @@ module _ (r : Row) (hasMask : Bool) (l : Listed r) where
   opacity-taken : Taken (r .kind) (worded PropertyType.opacity (r .opacity ∷ []))
   unfolding lengthOk allowed
   opacity-taken =
-      entry (r .kind) 6 (omega arith) (r .opacity ∷ []) (omega arith) refl (content-word (r .opacity) opacity-small)
+      entry (r .kind) PropertyType.opacity (omega arith) (r .opacity ∷ []) (omega arith) refl (content-word (r .opacity) opacity-small)
       (rw (le-leb _ _ (l .opaque), cond-same))
 
   mode-taken : Taken (r .kind) (worded PropertyType.mode (r .mode ∷ []))
   unfolding lengthOk allowed
   mode-taken =
-      entry (r .kind) 7 (omega arith) (r .mode ∷ []) (omega arith) refl (content-word (r .mode) (l .mode))
+      entry (r .kind) PropertyType.mode (omega arith) (r .mode ∷ []) (omega arith) refl (content-word (r .mode) (l .mode))
       (simp (and-false, cond-same))
 
   offsets-taken : Taken (r .kind) (worded PropertyType.offsets (r .dx ∷ r .dy ∷ []))
   unfolding lengthOk allowed
   offsets-taken =
-      entry (r .kind) 15 (omega arith) (r .dx ∷ r .dy ∷ []) (omega arith) refl (content-words (r .dx) (r .dy) (l .dx) (l .dy))
+      entry (r .kind) PropertyType.offsets (omega arith) (r .dx ∷ r .dy ∷ []) (omega arith) refl (content-words (r .dx) (r .dy) (l .dx) (l .dy))
       (simp (and-false, cond-same))
 
   drawable-taken : AllTaken (r .kind) (drawableProperties r hasMask)
   unfolding drawableProperties lengthOk
   drawable-taken =
-      when-taken (eqb (selection r) 1) (worded PropertyType.selection [] ∷ []) (goes refl (bare (r .kind) 4 (omega arith) refl))
-      (when-taken (eqb (active r) 1) (worded (activeType (r .kind)) [] ∷ []) (active-taken (r .kind))
+      when-taken (flagSet (r .flags) Flag.selection) (worded PropertyType.selection [] ∷ []) (goes refl (bare (r .kind) PropertyType.selection (omega arith) refl))
+      (when-taken (flagSet (r .flags) Flag.active) (worded (activeType (r .kind)) [] ∷ []) (active-taken (r .kind))
       (goes refl opacity-taken
-      (goes refl (flag (r .kind) 8 (omega arith) (r .flags) refl)
-      (when-taken hasMask (worded PropertyType.apply (apply r ∷ []) ∷ []) (goes refl (flag (r .kind) 11 (omega arith) (r .flags / 2) refl))
+      (goes refl (flag (r .kind) PropertyType.visible (omega arith) (r .flags / Flag.visible) refl)
+      (when-taken hasMask (worded PropertyType.apply (apply r ∷ []) ∷ []) (goes refl (flag (r .kind) PropertyType.apply (omega arith) (r .flags / Flag.apply) refl))
       (when-taken (isLayer r) (worded PropertyType.mode (r .mode ∷ []) ∷ worded PropertyType.offsets (r .dx ∷ r .dy ∷ []) ∷ [])
       (λ ts. goes refl mode-taken (goes refl offsets-taken ts))
-      (closes refl (bare (r .kind) 0 (omega arith) refl)))))))
+      (closes refl (bare (r .kind) PropertyType.end (omega arith) refl)))))))
 
   drawable-says : (layer : Bool) → isLayer r ≡ layer
       → putAll (r .kind) (drawableProperties r hasMask) (absent (r .kind) 0) ≡ propertiesOf r hasMask

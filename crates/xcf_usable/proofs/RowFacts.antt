@@ -9,6 +9,7 @@ use borrow.Author.Tests.{ltb-true, leb-true, eqb-true, eq-eqb, ne-eqb}
 use lib.Dec.{leb, ltb, eqb}
 use Rattle.xcf_numbers.specs.Limit.{sideLimit, depthLimit, writtenTypeLimit, fullOpacity, modeLimit, layerLimit, channelLimit, nameLimit}
 use Rattle.xcf_numbers.specs.Kind
+use Rattle.xcf_numbers.specs.Flag
 use Rattle.xcf_table.specs.declared.Row.{Row}
 use Rattle.xcf_table.specs.Table.{rowNumbers, rowAt}
 use Rattle.xcf_grid.specs.Grid.{tileCount}
@@ -39,7 +40,7 @@ pub record LayerFacts (c : Canvas) (k : ℕ) (r : Row) (hasMask : Bool) : Type 0
   pub depth : r .depth ≡ depthOf (r .form)
   pub mode : r .mode ≤ modeLimit
   pub owner : r .owner ≡ k
-  pub flags : r .flags ≡ visible r + 2 * apply r + 8 * active r
+  pub flags : r .flags ≡ visible r + Flag.apply * apply r + Flag.active * active r
   pub applied : hasMask ≡ false → apply r ≡ 0
 
 -- a mask's or channel's numbers
@@ -47,7 +48,7 @@ pub record ChannelFacts (r : Row) : Type 0 where
   pub depth : r .depth ≡ 1
   pub form : r .form ≡ 2
   pub mode : r .mode ≡ 0
-  pub flags : r .flags ≡ visible r + 4 * selection r + 8 * active r
+  pub flags : r .flags ≡ visible r + Flag.selection * selection r + Flag.active * active r
 
 -- a mask behind its layer
 pub record MaskFacts (k : ℕ) (o r : Row) : Type 0 where

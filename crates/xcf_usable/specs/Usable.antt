@@ -1,10 +1,12 @@
 -- The rows that the writer takes: those that a reader could have given, less what it excepts.
-use Prim.Native.Nat.{ℕ, zero, suc, _+_, _*_, _/_, _%_}
+use Prim.Native.Nat.{ℕ, zero, suc, _+_, _*_}
 use mathlib.Core.List.{List, [], _∷_}
 use mathlib.Core.Bool.{Bool, true, cond, not, _&&_, _||_}
 use lib.Dec.{leb, ltb, eqb}
 use Rattle.xcf_numbers.specs.Limit.{writtenTypeLimit, fullOpacity, modeLimit, layerLimit, channelLimit, nameLimit, tableRows}
 use Rattle.xcf_numbers.specs.Kind
+use Rattle.xcf_numbers.specs.Flag
+use Rattle.xcf_numbers.specs.Flag.{flagOf, flagSet}
 use Rattle.xcf_table.specs.declared.Row.{Row}
 use Rattle.xcf_table.specs.Table.{rowNumbers, unusedRow, rowAt}
 use Rattle.xcf_grid.specs.Grid.{tileCount}
@@ -25,35 +27,35 @@ isChannel r = eqb (r .kind) Kind.channel
 abbrev pub isUnused : Row → Bool
 isUnused r = eqb (r .kind) Kind.unused
 
--- flags: 1 visible, 2 apply mask, 4 selection, 8 active; 1 or 0 as the flag is set or not
+-- a row's flags, each 1 or 0 as it is set or not
 abbrev pub visible : Row → ℕ
-visible r = r .flags % 2
+visible r = flagOf (r .flags) Flag.visible
 
 abbrev pub apply : Row → ℕ
-apply r = r .flags / 2 % 2
+apply r = flagOf (r .flags) Flag.apply
 
 abbrev pub selection : Row → ℕ
-selection r = r .flags / 4 % 2
+selection r = flagOf (r .flags) Flag.selection
 
 abbrev pub active : Row → ℕ
-active r = r .flags / 8 % 2
+active r = flagOf (r .flags) Flag.active
 
 -- no other flags than a layer has, or than a mask or channel has
 abbrev pub layerFlagsOk : Row → Bool
-layerFlagsOk r = eqb (r .flags) (visible r + 2 * apply r + 8 * active r)
+layerFlagsOk r = eqb (r .flags) (visible r + Flag.apply * apply r + Flag.active * active r)
 
 abbrev pub channelFlagsOk : Row → Bool
-channelFlagsOk r = eqb (r .flags) (visible r + 4 * selection r + 8 * active r)
+channelFlagsOk r = eqb (r .flags) (visible r + Flag.selection * selection r + Flag.active * active r)
 
 -- active on at most one layer; active and selection on at most one channel or mask
 abbrev pub isActiveLayer : Row → Bool
-isActiveLayer r = isLayer r && eqb (active r) 1
+isActiveLayer r = isLayer r && flagSet (r .flags) Flag.active
 
 abbrev pub isActiveChannel : Row → Bool
-isActiveChannel r = not (isLayer r) && eqb (active r) 1
+isActiveChannel r = not (isLayer r) && flagSet (r .flags) Flag.active
 
 abbrev pub isSelection : Row → Bool
-isSelection r = not (isLayer r) && eqb (selection r) 1
+isSelection r = not (isLayer r) && flagSet (r .flags) Flag.selection
 
 -- how many of the rows before row k pass a test
 unfoldable pub before : (Row → Bool) → List ℕ → ℕ → ℕ

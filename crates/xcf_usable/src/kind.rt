@@ -6,6 +6,8 @@ use crate::seen::is_active_channel;
 use crate::seen::is_active_layer;
 use crate::seen::is_selection;
 use xcf_grid::tile_count;
+use xcf_numbers::flag;
+use xcf_numbers::flag::flag_of;
 use xcf_numbers::kind;
 use xcf_numbers::limit::CHANNEL_LIMIT;
 use xcf_numbers::limit::FULL_OPACITY;
@@ -24,7 +26,10 @@ fn layer_flags_ok(row: Row) -> bool
     ensures { λ r. ⌜ r ≡ layerFlagsOk row ⌝ }
 {
     let f = row.flags;
-    f == f % 2 + 2 * (f / 2 % 2) + 8 * (f / 8 % 2)
+    let visible = flag_of(f, flag::VISIBLE);
+    let apply = flag::APPLY * flag_of(f, flag::APPLY);
+    let active = flag::ACTIVE * flag_of(f, flag::ACTIVE);
+    f == visible + apply + active
 }
 
 // No flags but visible, selection and active.
@@ -32,7 +37,10 @@ fn channel_flags_ok(row: Row) -> bool
     ensures { λ r. ⌜ r ≡ channelFlagsOk row ⌝ }
 {
     let f = row.flags;
-    f == f % 2 + 4 * (f / 4 % 2) + 8 * (f / 8 % 2)
+    let visible = flag_of(f, flag::VISIBLE);
+    let selection = flag::SELECTION * flag_of(f, flag::SELECTION);
+    let active = flag::ACTIVE * flag_of(f, flag::ACTIVE);
+    f == visible + selection + active
 }
 
 // The numbers of any used row.
@@ -52,7 +60,7 @@ pub(crate) fn drawable_ok(names: usize, row: Row) -> bool
 pub(crate) fn layer_ok(canvas: Canvas, k: u32, row: Row, masked: bool) -> bool
     ensures { λ r. ⌜ r ≡ layerOk canvas k row masked ⌝ }
 {
-    let apply = row.flags / 2 % 2;
+    let apply = flag_of(row.flags, flag::APPLY);
     type_ok(canvas.base, row.form)
         & ((row.form <= WRITTEN_TYPE_LIMIT)
             & ((row.depth == depth_of(row.form))

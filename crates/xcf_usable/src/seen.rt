@@ -4,6 +4,8 @@ ghost use mathlib.Core.Bool.{cond};
 ghost use Prim.Native.Nat.{_+_, _<_};
 ghost use Rattle.xcf_numbers.specs.Limit.{tableRows};
 ghost use Rattle.xcf_usable.specs.Usable.{isActiveLayer, isActiveChannel, isSelection, seenAt};
+use xcf_numbers::flag;
+use xcf_numbers::flag::flag_set;
 use xcf_numbers::kind;
 use xcf_table::Row;
 use xcf_table::row_at;
@@ -44,19 +46,19 @@ fn one(test: bool) -> u32
 pub(crate) fn is_active_layer(row: Row) -> bool
     ensures { λ r. ⌜ r ≡ isActiveLayer row ⌝ }
 {
-    (row.kind == kind::LAYER) & (row.flags / 8 % 2 == 1)
+    (row.kind == kind::LAYER) & flag_set(row.flags, flag::ACTIVE)
 }
 
 pub(crate) fn is_active_channel(row: Row) -> bool
     ensures { λ r. ⌜ r ≡ isActiveChannel row ⌝ }
 {
-    !(row.kind == kind::LAYER) & (row.flags / 8 % 2 == 1)
+    !(row.kind == kind::LAYER) & flag_set(row.flags, flag::ACTIVE)
 }
 
 pub(crate) fn is_selection(row: Row) -> bool
     ensures { λ r. ⌜ r ≡ isSelection row ⌝ }
 {
-    !(row.kind == kind::LAYER) & (row.flags / 4 % 2 == 1)
+    !(row.kind == kind::LAYER) & flag_set(row.flags, flag::SELECTION)
 }
 
 // Behind row k.
