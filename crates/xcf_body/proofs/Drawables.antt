@@ -24,6 +24,7 @@ pub row-writable : {table names : List ℕ} {k : ℕ} {pixels : List ℕ} → Ro
 row-writable {table} {names} {k} x = record {
   drawn = x .drawn;
   named = part-length names (rowAt table k .name) (rowAt table k .size) (x .named);
+  short = x .short;
 }
 
 -- row k's drawable, as the code takes it from the table and the names

@@ -16,7 +16,7 @@ use Rattle.xcf_table.specs.Table.{rowAt}
 use Rattle.xcf_grid.specs.Drawn.{pixelSize, InRange}
 use Rattle.xcf_drawable.specs.Drawable.{Drawable, drawableSize}
 use Rattle.xcf_body.specs.Rows.{rowDrawable, drawablesFrom}
-use Rattle.xcf_body.specs.Parts.{RowReady, Ready, endOf, pixelLimit}
+use Rattle.xcf_body.specs.Parts.{RowReady, RowsReady, endOf, pixelLimit}
 use Rattle.xcf_body.proofs.RowsLoop.{PixelsLeft, pixels-first, pixels-inside, pixels-next}
 use Rattle.xcf_body.proofs.Drawables.{end-most}
 
@@ -63,7 +63,7 @@ module _ (table names pixels : List ℕ) (n : ℕ) where
     rows-first = record { pixelsLeft = pixels-first table n; end = rw rows-all }
 
     -- what is asked to find where row k's pixels end
-    pub row-asked : {k at to : ℕ} → RowsLeft k at to → k < n → Ready table names pixels n
+    pub row-asked : {k at to : ℕ} → RowsLeft k at to → k < n → RowsReady table names pixels n
         → InRange (rowAt table k) × ((k < tableRows) × (at ≤ pixelLimit * k))
     row-asked {k} g h r = (r .range k h, (omega (arith, r .few), g .pixelsLeft .most))
 
@@ -78,7 +78,7 @@ module _ (table names pixels : List ℕ) (n : ℕ) where
           → RowsLeft (k + 1) end q
       rows-next l m = record { pixelsLeft = pixels-next (g .pixelsLeft) h e l; end = rw m end-step }
 
-      module _ (r : Ready table names pixels n) where
+      module _ (r : RowsReady table names pixels n) where
         pub row-lent : end ≤ length pixels
         row-lent = rw (r .whole) (pixels-inside (g .pixelsLeft) h e)
 
@@ -91,6 +91,7 @@ module _ (table names pixels : List ℕ) (n : ℕ) where
                 whole = rw long (part-length pixels at (pixelSize (rowAt table k)) (omega (arith, row-lent)));
               };
               named = r .named k h;
+              short = r .short k h;
             }
 
     pub rows-end : {k at to : ℕ} → RowsLeft k at to → n ≤ k → to ≡ endOf all start

@@ -3,7 +3,7 @@ use Prim.Native.Nat.{ℕ, _+_, _≤_, _<_}
 use mathlib.Core.Path.{_≡_}
 use mathlib.Core.List.{List, [], _∷_}
 use lib.ListN.{length, take, drop}
-use Rattle.xcf_numbers.specs.Limit.{tableRows}
+use Rattle.xcf_numbers.specs.Limit.{tableRows, nameLimit}
 use Rattle.xcf_table.specs.Table.{rowAt}
 use Rattle.xcf_drawable.specs.Drawable.{Drawable, drawableSize}
 use Rattle.xcf_grid.specs.Drawn.{InRange, Drawn}
@@ -21,12 +21,14 @@ RowsInRange table n = (k : ℕ) → k < n → InRange (rowAt table k)
 pub record RowReady (table names : List ℕ) (k : ℕ) (pixels : List ℕ) : Type 0 where
   pub drawn : Drawn (rowAt table k) pixels
   pub named : rowAt table k .name + rowAt table k .size ≤ length names
+  pub short : rowAt table k .size ≤ nameLimit
 
 -- the first n rows in range, with their names among the names, and the pixels of all of them
-pub record Ready (table names pixels : List ℕ) (n : ℕ) : Type 0 where
+pub record RowsReady (table names pixels : List ℕ) (n : ℕ) : Type 0 where
   pub few : n ≤ tableRows
   pub range : RowsInRange table n
   pub named : (k : ℕ) → k < n → rowAt table k .name + rowAt table k .size ≤ length names
+  pub short : (k : ℕ) → k < n → rowAt table k .size ≤ nameLimit
   pub whole : length pixels ≡ pixelsSize table n 0
 
 -- where drawables end, one behind the other from p on

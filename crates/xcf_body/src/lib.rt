@@ -9,7 +9,7 @@ ghost use Rattle.xcf_table.specs.Table.{rowAt};
 ghost use Rattle.xcf_drawable.specs.Drawable.{drawableSize, drawableBytes};
 ghost use Rattle.xcf_body.specs.Rows.{drawablesBytes, placesFrom, pixelsSize, rowDrawable, drawablesFrom, usedRows};
 ghost use Rattle.xcf_grid.specs.Drawn.{pixelSize, InRange};
-ghost use Rattle.xcf_body.specs.Parts.{RowsInRange, RowReady, Ready, endOf, Placed, pixelLimit};
+ghost use Rattle.xcf_body.specs.Parts.{RowsInRange, RowReady, RowsReady, endOf, Placed, pixelLimit};
 use xcf_drawable::measure_drawable;
 use xcf_drawable::put_drawable;
 use xcf_numbers::kind;
@@ -84,7 +84,7 @@ pub fn measure_rows(
     start: usize,
     places: &mut [usize],
 ) -> usize
-    requires { ⌜ Ready (now table) (now names) (now pixels) n × (start ≤ imageLimit) ⌝ }
+    requires { ⌜ RowsReady (now table) (now names) (now pixels) n × (start ≤ imageLimit) ⌝ }
     requires { ⌜ length (now places) ≡ placesSize ⌝ }
     ensures { λ r. ⌜ r ≡ endOf (drawablesFrom (now (table .entry)) n 0 (now (names .entry)) (now (pixels .entry))) start ⌝ }
     ensures { λ _. ⌜ now (places .exit) ≡ sets (now (places .entry)) 0 (placesFrom (drawablesFrom (now (table .entry)) n 0 (now (names .entry)) (now (pixels .entry))) start) ⌝ }
@@ -144,7 +144,7 @@ pub fn put_rows(
     pixels: &[u8],
     places: &[usize],
 ) -> usize
-    requires { ⌜ Ready (now table) (now names) (now pixels) n × (length (now places) ≡ placesSize) ⌝ }
+    requires { ⌜ RowsReady (now table) (now names) (now pixels) n × (length (now places) ≡ placesSize) ⌝ }
     requires { ⌜ Placed (now places) 0 (drawablesFrom (now table) n 0 (now names) (now pixels)) start ⌝ }
     requires { ⌜ (endOf (drawablesFrom (now table) n 0 (now names) (now pixels)) start ≤ length (now output)) × (endOf (drawablesFrom (now table) n 0 (now names) (now pixels)) start ≤ fileLimit) ⌝ }
     ensures { λ r. ⌜ Put (now (output .entry)) start (drawablesBytes (drawablesFrom (now (table .entry)) n 0 (now (names .entry)) (now (pixels .entry))) start) r (now (output .exit)) ⌝ }

@@ -1,6 +1,6 @@
 -- The loops over a row's tiles. `Counting` holds at the head of both: a good tile and a marked one keep it (`counting-good`,
 -- `counting-bad`), it says that the marks are few (`counting-few`), and with no tile left it names the count (`counting-over`).
--- `Going` holds at the head of the loop that fills the buffers: its next tile can be placed (`tile-placeable`) and keeps it
+-- `TilesGoing` holds at the head of the loop that fills the buffers: its next tile can be placed (`tile-placeable`) and keeps it
 -- (`going-next`), and with no tile left it names the row's decoding (`going-counted`, `going-shown`, `going-marked`).
 -- Assumes nothing.
 use Prim.Native.Nat.{ℕ, _+_, _*_, _≤_, _<_}
@@ -45,7 +45,7 @@ pub record Counting (size : ℕ) (f : List ℕ) (r : Row) (compression : ℕ) (s
   pub room : length scratch ≡ tileSize
 
 -- the pixels of the first t tiles are shown, and their marks set
-pub record Going (size : ℕ) (f : List ℕ) (r : Row) (compression : ℕ) (pixels marks scratch : List ℕ) (t marked : ℕ) : Type 0 where
+pub record TilesGoing (size : ℕ) (f : List ℕ) (r : Row) (compression : ℕ) (pixels marks scratch : List ℕ) (t marked : ℕ) : Type 0 where
   pub counting : Counting size f r compression scratch t marked
   pub shown : Shown (pixelsAt size f r compression) r pixels t
   pub marksSize : length marks ≡ r .count
@@ -56,7 +56,7 @@ unfolding tabulate nonzero
 counting-start room = record { inside = omega arith; count = refl; room = room }
 
 pub going-start : {size : ℕ} {f : List ℕ} {r : Row} {compression : ℕ} {pixels marks scratch : List ℕ} → length pixels ≡ r .width * r .height * r .depth
-    → length marks ≡ r .count → length scratch ≡ tileSize → Going size f r compression pixels marks scratch 0 0
+    → length marks ≡ r .count → length scratch ≡ tileSize → TilesGoing size f r compression pixels marks scratch 0 0
 unfolding tabulate
 going-start pixels marks scratch = record { counting = counting-start scratch; shown = shown-none pixels; marksSize = marks; marksSet = refl }
 
@@ -85,27 +85,27 @@ module _ {size : ℕ} {f : List ℕ} {r : Row} {compression : ℕ} {scratch : Li
 
 module _ {size : ℕ} {f : List ℕ} {r : Row} {compression : ℕ} (ready : Ready size f r compression) where
   few : r .count ≤ 65536
-  few = rw (ready .usable .count) (few-tiles (r .width) (r .height) (ready .usable .wide .1) (ready .usable .high .1))
+  few = rw (ready .range .count) (few-tiles (r .width) (r .height) (ready .range .wide .1) (ready .range .high .1))
 
   pub counting-few : {scratch : List ℕ} {t marked : ℕ} → Counting size f r compression scratch t marked → (marked ≤ t) × (t ≤ 65536)
   counting-few {t = t} g = (rw (g .count) (nonzero-below t (markOf size f r compression)), omega (arith, g .inside, few))
 
-  module _ {pixels marks scratch : List ℕ} {t marked : ℕ} (g : Going size f r compression pixels marks scratch t marked) where
+  module _ {pixels marks scratch : List ℕ} {t marked : ℕ} (g : TilesGoing size f r compression pixels marks scratch t marked) where
     pub tile-placeable : t < r .count → (n : ℕ) → n ≡ tileSize → Placeable r (frameOf r t) n (length pixels)
     tile-placeable less n room = record {
       framed =
-          tile-framed (ready .usable .wide .0) (omega (arith, less, ready .usable .count)) (omega (arith, room, pixels-small ready less refl .1)) (g .shown .size);
-      wide = ready .usable .wide .1;
-      high = ready .usable .high .1;
-      deep = ready .usable .deep .1;
+          tile-framed (ready .range .wide .0) (omega (arith, less, ready .range .count)) (omega (arith, room, pixels-small ready less refl .1)) (g .shown .size);
+      wide = ready .range .wide .1;
+      high = ready .range .high .1;
+      deep = ready .range .deep .1;
     }
 
     pub going-next : t < r .count → {m : ℕ} {new : List ℕ} → Scratched (tile size f r compression t) m scratch new → {count : ℕ}
         → Counting size f r compression new (t + 1) count
-        → Going size f r compression (putFrame pixels (r .width) (r .depth) (frameOf r t) new) (set marks t m) new (t + 1) count
+        → TilesGoing size f r compression (putFrame pixels (r .width) (r .depth) (frameOf r t) new) (set marks t m) new (t + 1) count
     going-next less {m} {new} one next = record {
       counting = next;
-      shown = shown-next new (g .shown) (ready .usable .wide .0) (omega (arith, less, ready .usable .count)) (pixels-of-length size f r compression t) (scratch-pixels one);
+      shown = shown-next new (g .shown) (ready .range .wide .0) (omega (arith, less, ready .range .count)) (pixels-of-length size f r compression t) (scratch-pixels one);
       marksSize = length-set marks t m ∙ g .marksSize;
       marksSet =
           rw (add-one, tabulate-more t 0 (markOf size f r compression), zero-add, take-suc-set marks t m (omega (arith, less, g .marksSize)), g .marksSet, one .mark);
@@ -121,7 +121,7 @@ module _ {size : ℕ} {f : List ℕ} {r : Row} {compression : ℕ} (ready : Read
 
       pub going-shown : pixels ≡ rowDecoding size f r compression .pixels
       unfolding rowDecoding
-      going-shown = shown-all (subst (Shown (pixelsAt size f r compression) r pixels) (all ∙ ready .usable .count) (g .shown)) (ready .usable .wide .0) (ready .usable .deep .0)
+      going-shown = shown-all (subst (Shown (pixelsAt size f r compression) r pixels) (all ∙ ready .range .count) (g .shown)) (ready .range .wide .0) (ready .range .deep .0)
 
       pub going-marked : marks ≡ rowDecoding size f r compression .marks
       unfolding rowDecoding marksOf

@@ -2,7 +2,7 @@
 -- buffers fit (`drawable-ready`), since a walk's refusals have listed numbers. Buffers that fit have the row's lengths
 -- (`fit-lengths`).
 -- Assumes nothing.
-use Prim.Native.Nat.{ℕ, zero, suc, _*_}
+use Prim.Native.Nat.{ℕ, zero, suc, _*_, _≤_}
 use mathlib.Core.Path.{_≡_, refl}
 use mathlib.Core.List.{List}
 use mathlib.Core.Bool.{Bool, true, false, cond, and-eq-true-iff, false≢true}
@@ -22,21 +22,22 @@ use Rattle.xcf_parse.specs.Hierarchy.{tiles}
 use Rattle.xcf_store.specs.Pointer.{pointerSize, pointerSizeOk, PointerSize}
 use Rattle.xcf_read.specs.Answer.{refusals, listed}
 use Rattle.xcf_read_laws.proofs.Numbers.{numbered-tiles}
-use Rattle.xcf_window.specs.Usable.{inRange, inFile, usableRow, fits, rowRefusal}
+use Rattle.xcf_window.specs.Usable.{inRange, inFile, decodableRow, fits, rowRefusal}
 use Rattle.xcf_decode.specs.Answer.{refusal, pointersRefusal, drawableRefusal}
-use Rattle.xcf_window.specs.Parts.{Usable, Ready}
+use Rattle.xcf_window.specs.Parts.{Ready}
+use Rattle.xcf_grid.specs.Drawn.{InRange}
 
 -- a choice that is 0 where its other branch is not
 cond-zero : (b : Bool) (x y : ℕ) → (y ≡ 0 → ⊥) → cond b x y ≡ 0 → (b ≡ true) × (x ≡ 0)
 cond-zero true x y other e = (refl, e)
 cond-zero false x y other e = absurd (other e)
 
-pub row-usable : (size fileLength n : ℕ) (r : Row) (compression : ℕ) → rowRefusal size fileLength n r compression ≡ 0 → PointerSize size × Usable r compression
-unfolding rowRefusal usableRow inRange inFile
+pub row-usable : (size fileLength n : ℕ) (r : Row) (compression : ℕ) → rowRefusal size fileLength n r compression ≡ 0 → PointerSize size × InRange r × (compression ≤ 1)
+unfolding rowRefusal decodableRow inRange inFile
 row-usable size fileLength n r compression e =
     let table = cond-zero (eqb n tableSize) _ 11 (λ z. omega (arith, z)) e in
     let file = cond-zero (leb fileLength fileLimit) _ 15 (λ z. omega (arith, z)) (table .1) in
-    let usable = and-eq-true-iff (pointerSizeOk size) _ .0 (cond-zero (usableRow size fileLength r compression) _ 14 (λ z. omega (arith, z)) (file .1) .0) in
+    let usable = and-eq-true-iff (pointerSizeOk size) _ .0 (cond-zero (decodableRow size fileLength r compression) _ 14 (λ z. omega (arith, z)) (file .1) .0) in
     let row = and-eq-true-iff (inRange r) _ .0 (usable .1) in
     let range = and-eq-true-iff (within Kind.layer Kind.channel (r .kind)) _ .0 (row .0) in
     let sides = and-eq-true-iff (within 1 sideLimit (r .width)) _ .0 (range .1) in
@@ -49,8 +50,8 @@ row-usable size fileLength n r compression e =
         high = within-bounds 1 sideLimit (r .height) (more .0);
         deep = within-bounds 1 depthLimit (r .depth) (more .1);
         count = eqb-true (r .count) _ (count .0);
-        way = leb-true compression 1 (inside .1);
       },
+      leb-true compression 1 (inside .1),
     )
 
 -- a listed number is not 0
@@ -73,7 +74,7 @@ drawable-ready size f n r compression fit = go (rowRefusal size (length f) n r c
     go zero e true z =
         let usable = row-usable size (length f) n r compression e in
         let end = pointers-taken (run (tiles size (r .count) 0) f (r .tiles)) (λ n p e. numbered-tiles size (r .count) 0 .number f (r .tiles) e) z in
-        (record { sized = usable .0; usable = usable .1; end = end .0; pointers = end .1 }, refl)
+        (record { sized = usable .0; range = usable .1; way = usable .2; end = end .0; pointers = end .1 }, refl)
 
 pub fit-lengths : (r : Row) (pixels marks : ℕ) → fits r pixels marks ≡ true → (pixels ≡ r .width * r .height * r .depth) × (marks ≡ r .count)
 unfolding fits

@@ -24,7 +24,7 @@ use Rattle.xcf_parse.specs.Hierarchy.{tiles}
 use Rattle.xcf_store.specs.Pointer.{pointerSizeOk}
 use Rattle.xcf_read.specs.Answer.{listed}
 use Rattle.xcf_decode.specs.declared.DecodeAnswer.{DecodeAnswer}
-use Rattle.xcf_window.specs.Usable.{inRange, inFile, usableRow, fits, rowRefusal}
+use Rattle.xcf_window.specs.Usable.{inRange, inFile, decodableRow, fits, rowRefusal}
 use Rattle.xcf_decode.specs.Answer.{refusal, pointersRefusal, drawableRefusal, decoderNumbers, Decoding, rowDecoding, decoding}
 
 -- a number that lies in the file is read
@@ -58,8 +58,8 @@ abbrev Listed : DecodeAnswer → Type 0
 Listed a = listed decoderNumbers (a .number) ≡ true
 
 module _ (size : ℕ) (f : List ℕ) (n : ℕ) (r : Row) (compression : ℕ) where
-  pointers-inside : usableRow size (length f) r compression ≡ true → r .tiles + size * (r .count + 1) ≤ length f
-  unfolding usableRow inFile
+  pointers-inside : decodableRow size (length f) r compression ≡ true → r .tiles + size * (r .count + 1) ≤ length f
+  unfolding decodableRow inFile
   pointers-inside e =
       let row = and-eq-true-iff (inRange r) _ .0 (and-eq-true-iff (pointerSizeOk size) _ .0 e .1) in
       let file = and-eq-true-iff (inFile size (length f) r) _ .0 (row .1) in
@@ -70,17 +70,17 @@ module _ (size : ℕ) (f : List ℕ) (n : ℕ) (r : Row) (compression : ℕ) whe
   outcome-listed (got u q) h = refl
   outcome-listed (refused m p) h = rw (h m p refl)
 
-  pointers-listed : usableRow size (length f) r compression ≡ true → Listed (pointersRefusal (run (tiles size (r .count) 0) f (r .tiles)))
+  pointers-listed : decodableRow size (length f) r compression ≡ true → Listed (pointersRefusal (run (tiles size (r .count) 0) f (r .tiles)))
   pointers-listed e = outcome-listed _ (λ m p x. pointers-13 size f (r .count) 0 (r .tiles) (pointers-inside e) x)
 
   drawable-listed : (fit : Bool) → Listed (drawableRefusal size f n r compression fit)
   unfolding drawableRefusal rowRefusal listed
-  drawable-listed fit = go (eqb n tableSize) (leb (length f) fileLimit) (usableRow size (length f) r compression) refl fit
+  drawable-listed fit = go (eqb n tableSize) (leb (length f) fileLimit) (decodableRow size (length f) r compression) refl fit
     where
       refusalAt : Bool → Bool → Bool → ℕ
       refusalAt a b c = cond a (cond b (cond c 0 14) 15) 11
 
-      go : (a b c : Bool) → usableRow size (length f) r compression ≡ c → (fit : Bool)
+      go : (a b c : Bool) → decodableRow size (length f) r compression ≡ c → (fit : Bool)
           → Listed (cond (eqb (refusalAt a b c) 0) (cond fit (pointersRefusal (run (tiles size (r .count) 0) f (r .tiles))) (refusal Refusal.wrongBuffer 0)) (refusal (refusalAt a b c) 0))
       go true true true e true = pointers-listed e
       go true true true e false = refl

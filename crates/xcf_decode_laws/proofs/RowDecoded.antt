@@ -13,7 +13,7 @@ use Rattle.xcf_range.proofs.Bounds.{bounds-within}
 use Rattle.xcf_store.specs.Pointer.{pointerSize, PointerSize}
 use Rattle.xcf_read.specs.Answer.{reading, rowOf}
 use Rattle.xcf_read_laws.proofs.AcceptedRows.{RowRead}
-use Rattle.xcf_window.specs.Usable.{inRange, inFile, usableRow, fits, rowRefusal}
+use Rattle.xcf_window.specs.Usable.{inRange, inFile, decodableRow, fits, rowRefusal}
 use Rattle.xcf_decode.specs.Answer.{refusal, drawableRefusal, rowDecoding, decoding}
 use Rattle.xcf_window.proofs.TilePointers.{tiles-inside}
 use Rattle.xcf_read_laws.proofs.Accepts.{accepts}
@@ -28,8 +28,8 @@ module _ {size : ℕ} {f : List ℕ} {S : ℕ → Type 0} {r : Row} (sized : Poi
   unfolding inFile
   in-file = rw (eq-eqb _ _ (row .count), le-leb _ _ (tiles-inside size (r .count) 0 f (r .tiles) (row .tiles .pointers)))
 
-  usable : (compression : ℕ) → compression ≤ 1 → usableRow size (length f) r compression ≡ true
-  unfolding usableRow
+  usable : (compression : ℕ) → compression ≤ 1 → decodableRow size (length f) r compression ≡ true
+  unfolding decodableRow
   usable compression way = rw (eq-eqb _ _ sized, in-range, in-file, le-leb _ _ way)
 
   -- and is not refused for its file, its table or its pointers

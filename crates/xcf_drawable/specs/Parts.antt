@@ -4,7 +4,7 @@ use mathlib.Core.Path.{_≡_}
 use mathlib.Core.List.{List}
 use mathlib.Core.Bool.{Bool}
 use lib.ListN.{length}
-use Rattle.xcf_numbers.specs.Limit.{fileLimit}
+use Rattle.xcf_numbers.specs.Limit.{fileLimit, nameLimit}
 use Rattle.xcf_table.specs.declared.Row.{Row}
 use Rattle.xcf_drawable.specs.Drawable.{Drawable}
 use Rattle.xcf_grid.specs.Drawn.{Drawn}
@@ -17,6 +17,7 @@ encodingsLimit = 1090781184
 pub record Writable (d : Drawable) : Type 0 where
   pub drawn : Drawn (d .row) (d .pixels)
   pub named : length (d .name) ≡ d .row .size
+  pub short : d .row .size ≤ nameLimit
 
 -- room for n bytes from a place on, in the output and in a file
 pub record Space (output : List ℕ) (to n : ℕ) : Type 0 where

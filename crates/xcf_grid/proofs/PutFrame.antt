@@ -12,7 +12,7 @@ use Rattle.xcf_numbers.specs.Limit.{tileSide}
 use Rattle.xcf_table.specs.declared.Row.{Row}
 use Rattle.xcf_grid.specs.declared.frame.Frame.{Frame}
 use Rattle.xcf_grid.specs.Pixels.{byteOf}
-use Rattle.xcf_grid.specs.Parts.{putFrame, Fits, Framed}
+use Rattle.xcf_grid.specs.Parts.{putFrame, LineFits, Framed}
 use Rattle.xcf_grid.proofs.PutLines.{putLines-length, putLines-inside, putLines-outside}
 
 -- a whole number of units is at most another with a part of a unit
@@ -43,7 +43,7 @@ module _ {r : Row} {s : Frame} (tile pixels : List ℕ) (f : Framed r s (length 
   abbrev corner : ℕ
   corner = d * (tileSide * (w * s .line + s .column))
 
-  pub frame-fits : Fits pixels corner (d * w) tile 0 (d * s .width) (s .height)
+  pub frame-fits : LineFits pixels corner (d * w) tile 0 (d * s .width) (s .height)
   frame-fits = record {
     source = omega (arith, f .source);
     target = omega (arith, f .target, mul-le-mul-left d (f .across), mul-le-mul-left d (mul-le-mul-left w (f .down)));

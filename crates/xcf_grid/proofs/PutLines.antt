@@ -7,11 +7,11 @@ use mathlib.Core.List.{List}
 use native.Mathlib.Omega.{arith}
 use lib.ListN.{length, getD, drop, length-drop}
 use lib.Seq.{paste, length-paste, getD-drop}
-use Rattle.xcf_grid.specs.Parts.{putLines, Fits}
+use Rattle.xcf_grid.specs.Parts.{putLines, LineFits}
 use Rattle.xcf_grid.proofs.Pasted.{getD-paste-inside, getD-paste-outside}
 
 -- the first line lies in the tile and in the pixels (`first-source`, `first-target`), and with it in, the others fit (`others`)
-module _ {pixels : List ℕ} {to stride : ℕ} {tile : List ℕ} {from line n : ℕ} (h : Fits pixels to stride tile from line (suc n)) where
+module _ {pixels : List ℕ} {to stride : ℕ} {tile : List ℕ} {from line n : ℕ} (h : LineFits pixels to stride tile from line (suc n)) where
   pub first-source : from + line ≤ length tile
   first-source = omega (arith, h .source)
 
@@ -24,17 +24,17 @@ module _ {pixels : List ℕ} {to stride : ℕ} {tile : List ℕ} {from line n : 
   pub first-length : length (paste pixels to (drop from tile) line) ≡ length pixels
   first-length = length-paste pixels to (drop from tile) line first-target first-there
 
-  pub others : Fits (paste pixels to (drop from tile) line) (to + stride) stride tile (from + line) line n
+  pub others : LineFits (paste pixels to (drop from tile) line) (to + stride) stride tile (from + line) line n
   others = record { source = omega (arith, h .source); target = omega (arith, h .target, first-length) }
 
 module _ (stride : ℕ) (tile : List ℕ) (line : ℕ) where
-  pub putLines-length : (pixels : List ℕ) (to from n : ℕ) → Fits pixels to stride tile from line n
+  pub putLines-length : (pixels : List ℕ) (to from n : ℕ) → LineFits pixels to stride tile from line n
       → length (putLines pixels to stride tile from line n) ≡ length pixels
   unfolding putLines
   putLines-length pixels to from zero h = refl
   putLines-length pixels to from (suc n) h = putLines-length _ (to + stride) (from + line) n (others h) ∙ first-length h
 
-  pub putLines-outside : (pixels : List ℕ) (to from n : ℕ) → Fits pixels to stride tile from line n
+  pub putLines-outside : (pixels : List ℕ) (to from n : ℕ) → LineFits pixels to stride tile from line n
       → (i : ℕ) → ((j : ℕ) → j < n → to + stride * j ≤ i → i < to + stride * j + line → ⊥)
       → getD (putLines pixels to stride tile from line n) i 0 ≡ getD pixels i 0
   unfolding putLines
@@ -45,7 +45,7 @@ module _ (stride : ℕ) (tile : List ℕ) (line : ℕ) where
       ∙ getD-paste-outside pixels to (drop from tile) line (omega (arith, first-target h)) (first-there h) i
       (λ low high. out 0 (omega arith) (omega (arith, low)) (omega (arith, high)))
 
-  pub putLines-inside : line ≤ stride → (pixels : List ℕ) (to from n : ℕ) → Fits pixels to stride tile from line n
+  pub putLines-inside : line ≤ stride → (pixels : List ℕ) (to from n : ℕ) → LineFits pixels to stride tile from line n
       → (j b : ℕ) → j < n → b < line
       → getD (putLines pixels to stride tile from line n) (to + stride * j + b) 0 ≡ getD tile (from + line * j + b) 0
   unfolding putLines

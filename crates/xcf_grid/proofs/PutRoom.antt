@@ -9,7 +9,7 @@ use lib.ListN.{length}
 use Rattle.xcf_numbers.specs.Limit.{sideLimit, tileSide}
 use Rattle.xcf_table.specs.declared.Row.{Row}
 use Rattle.xcf_grid.specs.declared.frame.Frame.{Frame}
-use Rattle.xcf_grid.specs.Parts.{Room, Placeable}
+use Rattle.xcf_grid.specs.Parts.{LineRoom, Placeable}
 use Rattle.xcf_grid.proofs.PutFrame.{frame-fits}
 
 -- the frame's corner, in pixels and in bytes; a line of the frame and one of the drawable, in bytes
@@ -36,7 +36,7 @@ module _ {r : Row} {s : Frame} {tileLength pixelsLength : ℕ} (p : Placeable r 
       }
 
 pub frame-room : {r : Row} {s : Frame} (tile pixels : List ℕ) → Placeable r s (length tile) (length pixels)
-    → Room pixels (r .depth * (tileSide * (r .width * s .line + s .column))) (r .depth * r .width) tile 0 (r .depth * s .width) (s .height)
+    → LineRoom pixels (r .depth * (tileSide * (r .width * s .line + s .column))) (r .depth * r .width) tile 0 (r .depth * s .width) (s .height)
 frame-room {r} {s} tile pixels p = record {
   fits = frame-fits tile pixels (p .framed);
   small = omega (arith, p .framed .target, mul-le-mul (area p) (p .deep), frame-small p .stride);

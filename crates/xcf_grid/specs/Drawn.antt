@@ -3,7 +3,7 @@ use Prim.Native.Nat.{ℕ, _*_, _≤_, _<_}
 use mathlib.Core.Path.{_≡_}
 use mathlib.Core.List.{List}
 use lib.ListN.{length}
-use Rattle.xcf_numbers.specs.Limit.{sideLimit, depthLimit, nameLimit}
+use Rattle.xcf_numbers.specs.Limit.{sideLimit, depthLimit}
 use Rattle.xcf_table.specs.declared.Row.{Row}
 use Rattle.xcf_grid.specs.Grid.{tileCount}
 
@@ -17,7 +17,6 @@ pub record InRange (r : Row) : Type 0 where
   pub high : (1 ≤ r .height) × (r .height ≤ sideLimit)
   pub deep : (1 ≤ r .depth) × (r .depth ≤ depthLimit)
   pub count : r .count ≡ tileCount (r .width) (r .height)
-  pub short : r .size ≤ nameLimit
 
 -- a row in range, whose pixels are all there, and one of its tiles
 pub record Drawn (r : Row) (pixels : List ℕ) : Type 0 where

@@ -30,13 +30,13 @@ putFrame pixels width depth s tile =
     putLines pixels (depth * (tileSide * (width * s .line + s .column))) (depth * width) tile 0 (depth * s .width) (s .height)
 
 -- the tile has n lines from a place on, and the pixels have room for them
-pub record Fits (pixels : List ℕ) (to stride : ℕ) (tile : List ℕ) (from line n : ℕ) : Type 0 where
+pub record LineFits (pixels : List ℕ) (to stride : ℕ) (tile : List ℕ) (from line n : ℕ) : Type 0 where
   pub source : from + line * n ≤ length tile
   pub target : to + stride * n + line ≤ length pixels + stride
 
 -- and the places behind the lines are small
-pub record Room (pixels : List ℕ) (to stride : ℕ) (tile : List ℕ) (from line n : ℕ) : Type 0 where
-  pub fits : Fits pixels to stride tile from line n
+pub record LineRoom (pixels : List ℕ) (to stride : ℕ) (tile : List ℕ) (from line n : ℕ) : Type 0 where
+  pub fits : LineFits pixels to stride tile from line n
   pub small : length pixels + stride < wordLimit
 
 -- a tile's frame lies in its row's drawable, whose pixels and the tile's have these lengths

@@ -1,14 +1,14 @@
 // A tile's lines, put at the tile's place in its drawable.
 ghost use mathlib.Core.Path.{_≡_};
 ghost use lib.ListN.{length};
-ghost use Rattle.xcf_grid.specs.Parts.{putLines, putFrame, Room, Placeable};
+ghost use Rattle.xcf_grid.specs.Parts.{putLines, putFrame, LineRoom, Placeable};
 use crate::frame::Frame;
 use crate::frame::SIDE;
 use xcf_table::Row;
 
 // n lines of the tile, `line` bytes each, put into the pixels from `at` on, `stride` apart.
 fn put_lines(tile: &[u8], line: usize, n: u32, pixels: &mut [u8], at: usize, stride: usize)
-    requires { ⌜ Room (now pixels) at stride (now tile) 0 line n ⌝ }
+    requires { ⌜ LineRoom (now pixels) at stride (now tile) 0 line n ⌝ }
     ensures { λ _. ⌜ now (pixels .exit) ≡ putLines (now (pixels .entry)) at stride (now (tile .entry)) 0 line n ⌝ }
 {
     let mut from = 0;

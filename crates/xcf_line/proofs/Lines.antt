@@ -7,10 +7,10 @@ use Rattle.xcf_store.specs.Put.{PutWithin}
 use Rattle.xcf_store.proofs.Stores.{within-append, within-more}
 use Rattle.xcf_read.specs.declared.ReadAnswer.{ReadAnswer}
 use Rattle.xcf_text.specs.Text.{newline, spaced, labelled, lineSize}
-use Rattle.xcf_text.specs.Words.{canvas, base, version, compression, rows, refused, at}
+use Rattle.xcf_text.specs.Words.{canvas, base, version, compression, rows, refusedWord, at}
 use Rattle.xcf_line.specs.Line.{refusedLine, canvasLine}
 
-pub refusal-put : (n p : ℕ) {old mid new : List ℕ} {r s : ℕ} → PutWithin old 0 (labelled refused n) 28 r mid
+pub refusal-put : (n p : ℕ) {old mid new : List ℕ} {r s : ℕ} → PutWithin old 0 (labelled refusedWord n) 28 r mid
     → PutWithin mid r (labelled at p ++ newline) 25 s new → PutWithin old 0 (refusedLine n p) lineSize s new
 unfolding refusedLine
 refusal-put n p a b = within-more lineSize (omega arith) (within-append a b)

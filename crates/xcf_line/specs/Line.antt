@@ -3,10 +3,10 @@ use Prim.Native.Nat.{ℕ}
 use mathlib.Core.List.{List, _++_}
 use Rattle.xcf_read.specs.declared.ReadAnswer.{ReadAnswer}
 use Rattle.xcf_text.specs.Text.{newline, spaced, labelled}
-use Rattle.xcf_text.specs.Words.{canvas, base, version, compression, rows, refused, at}
+use Rattle.xcf_text.specs.Words.{canvas, base, version, compression, rows, refusedWord, at}
 
 unfoldable pub refusedLine : ℕ → ℕ → List ℕ
-refusedLine n p = labelled refused n ++ (labelled at p ++ newline)
+refusedLine n p = labelled refusedWord n ++ (labelled at p ++ newline)
 
 unfoldable pub canvasLine : ReadAnswer → List ℕ
 canvasLine a =

@@ -22,20 +22,20 @@ use Rattle.xcf_decode.specs.declared.DecodeAnswer.{DecodeAnswer}
 use Rattle.xcf_window.specs.Window.{tile}
 use Rattle.xcf_decode.specs.Answer.{refusal, pointersRefusal, drawableRefusal, nonzero, marksOf, counted, counting}
 use Rattle.xcf_window.specs.Usable.{rowRefusal}
-use Rattle.xcf_window.specs.Parts.{Usable}
+use Rattle.xcf_grid.specs.Drawn.{InRange}
 use Rattle.xcf_decode.proofs.Marked.{nonzero-below}
 use Rattle.xcf_decode.proofs.Usable.{drawable-ready}
 use Rattle.xcf_listing.specs.Listing.{markedTiles}
 
--- a usable row's marks
-usable-few : (size : ℕ) {r : Row} {compression : ℕ} (file : List ℕ) → Usable r compression → nonzero (marksOf size file r compression) ≤ 65536
+-- the marks of a row in range
+range-few : (size : ℕ) {r : Row} {compression : ℕ} (file : List ℕ) → InRange r → nonzero (marksOf size file r compression) ≤ 65536
 unfolding marksOf
-usable-few size {r} {compression} file u =
+range-few size {r} {compression} file range =
     omega (
       arith,
       nonzero-below (r .count) (λ t. tile size file r compression t .mark),
-      u .count,
-      few-tiles (r .width) (r .height) (u .wide .1) (u .high .1),
+      range .count,
+      few-tiles (r .width) (r .height) (range .wide .1) (range .high .1),
     )
 
 -- a refusal of a row or of its tile pointers counts none
@@ -57,7 +57,7 @@ marked-few size file table k compression =
     let n = length table in
     let answer = drawableRefusal size file n r compression true in
     by-cases (λ (a : DecodeAnswer). a .marked ≤ 65536) (eqb (answer .number) 0) (counted (marksOf size file r compression)) answer
-    (λ e. usable-few size file (drawable-ready size file n r compression true (eqb-true _ 0 e) .0 .usable))
+    (λ e. range-few size file (drawable-ready size file n r compression true (eqb-true _ 0 e) .0 .range))
     (λ _. omega (arith, refusal-none size file n r compression))
 
 module _ (file table : List ℕ) (compression : ℕ) where

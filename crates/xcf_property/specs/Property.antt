@@ -59,8 +59,8 @@ allowed list kind v =
     (cond (eqb list layerList && eqb kind PropertyType.apply) (leb v 1) true)))
 
 -- what holds where the list says nothing; unmapped is 1 for an indexed image
-abbrev pub absent : ℕ → ℕ → Properties
-absent list unmapped = record {
+abbrev pub defaults : ℕ → ℕ → Properties
+defaults list unmapped = record {
   compression = 0;
   unmapped = unmapped;
   opacity = fullOpacity;

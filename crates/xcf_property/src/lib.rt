@@ -5,7 +5,7 @@ ghost use mathlib.Core.Bool.{cond};
 ghost use lib.ListN.{length};
 ghost use lib.Dec.{eqb};
 ghost use Rattle.xcf_store.specs.Word.{part, wordOf};
-ghost use Rattle.xcf_property.specs.Property.{lengthOk, contentOf, isColourMap, isFloating, lacksMap, allowed, absent, activeType, put, noProperties, imageList, layerList};
+ghost use Rattle.xcf_property.specs.Property.{lengthOk, contentOf, isColourMap, isFloating, lacksMap, allowed, defaults, activeType, put, noProperties, imageList, layerList};
 use xcf_numbers::kind;
 use xcf_numbers::limit::FULL_OPACITY;
 use xcf_numbers::property_type;
@@ -225,8 +225,8 @@ impl Properties {
     }
 
     // What holds where the list says nothing.
-    pub fn absent(list: u32, unmapped: u32) -> Properties
-        ensures { λ r. ⌜ r ≡ absent list unmapped ⌝ }
+    pub fn defaults(list: u32, unmapped: u32) -> Properties
+        ensures { λ r. ⌜ r ≡ defaults list unmapped ⌝ }
     {
         Properties {
             compression: 0,

@@ -1,4 +1,4 @@
--- The loop over drawables: `Going` holds at its head (`going-start`), each drawable keeps it (`going-next`) and has room in the
+-- The loop over drawables: `DrawablesGoing` holds at its head (`going-start`), each drawable keeps it (`going-next`) and has room in the
 -- table (`room-for-one`), and behind the last the rows in the table are what the walk gives (`going-over`).
 -- Assumes nothing.
 use Prim.Native.Nat.{ℕ, suc, _+_, _-_, _*_, _≤_, _<_}
@@ -49,7 +49,7 @@ rows-one-more kind n = go (eqb kind Kind.layer)
 
 module _ (size : ℕ) (f : List ℕ) (c : Cursor) (kind : ℕ) (canvas : Canvas) (at n k : ℕ) (old : List ℕ) where
   -- of n drawables whose pointers stand at a place i are read, and the next pointer stands at link
-  pub record Going (new : List ℕ) (next : Cursor) (rows : ℕ) (link : Cursor) (i : ℕ) : Type 0 where
+  pub record DrawablesGoing (new : List ℕ) (next : Cursor) (rows : ℕ) (link : Cursor) (i : ℕ) : Type 0 where
     pub inside : i ≤ n
     pub kept : length new ≡ length old
     pub few : rows + rowsMost kind (n - i) ≤ k + rowsMost kind n
@@ -58,7 +58,7 @@ module _ (size : ℕ) (f : List ℕ) (c : Cursor) (kind : ℕ) (canvas : Canvas)
         → Leads c (drawables (drawable size kind canvas) (pointersAt size f at n) (rowsIn k old)) f d all
 
 pub going-start : {size : ℕ} {f : List ℕ} {c : Cursor} {kind : ℕ} {canvas : Canvas} {at n k : ℕ} {old : List ℕ} {link : Cursor}
-    → link ≡ record { at = at; number = 0 } → (c .number ≡ 0 → at + size * n ≤ length f) → Going size f c kind canvas at n k old old c k link 0
+    → link ≡ record { at = at; number = 0 } → (c .number ≡ 0 → at + size * n ≤ length f) → DrawablesGoing size f c kind canvas at n k old old c k link 0
 going-start e fits = record {
   inside = omega arith;
   kept = refl;
@@ -68,7 +68,7 @@ going-start e fits = record {
 }
 
 module _ {size : ℕ} {f : List ℕ} {c : Cursor} {kind : ℕ} {canvas : Canvas} {at n k : ℕ} {old new : List ℕ} {next : Cursor} {rows : ℕ} {link : Cursor} {i : ℕ}
-    (g : Going size f c kind canvas at n k old new next rows link i) where
+    (g : DrawablesGoing size f c kind canvas at n k old new next rows link i) where
   pub going-over : n ≤ i → Filled c (drawables (drawable size kind canvas) (pointersAt size f at n) (rowsIn k old)) f old next rows new × (rows ≤ k + rowsMost kind n)
   unfolding drawables pointersAt
   going-over h =
@@ -96,7 +96,7 @@ module _ {size : ℕ} {f : List ℕ} {c : Cursor} {kind : ℕ} {canvas : Canvas}
       jumps-there = jump-to next _ (λ z. pointer-read z .2) jumps
 
       pub going-next : {end : Cursor} {most : ℕ} {table : List ℕ} → Filled there (drawable size kind canvas (rowsIn rows new)) f new end most table → most ≤ rows + rowsMost kind 1
-          → Going size f c kind canvas at n k old table end most after (i + 1)
+          → DrawablesGoing size f c kind canvas at n k old table end most after (i + 1)
       unfolding drawables pointersAt
       going-next read few = record {
         inside = omega arith;

@@ -1,5 +1,5 @@
 -- Pointers closed by 0: what a turn of their loop gives, where its number is 0 (`turn-closed`) and where it is a pointer
--- (`turn-read`). `Going` holds at the loop's head (`going-start`), each turn keeps it (`going-next`, `going-last`), and at the
+-- (`turn-read`). `PointersGoing` holds at the loop's head (`going-start`), each turn keeps it (`going-next`, `going-last`), and at the
 -- end it says what the walk gives.
 -- Assumes nothing.
 use Prim.Native.Nat.{ℕ, zero, suc, _+_, _-_, _*_, _≤_}
@@ -74,13 +74,13 @@ pub record Left (size : ℕ) (f : List ℕ) (c : Cursor) (most : ℕ) (next : Cu
   pub whole : {d : Cursor} {ps : List ℕ} → Leads next (pointers size (most - count)) f d ps → Leads c (pointers size most) f d (pointersAt size f (c .at) count ++ ps)
 
 -- of at most so many pointers from c on count are read, and the loop goes on or is over
-pub record Going (size : ℕ) (f : List ℕ) (c : Cursor) (most : ℕ) (again : Bool) (next : Cursor) (count : ℕ) : Type 0 where
+pub record PointersGoing (size : ℕ) (f : List ℕ) (c : Cursor) (most : ℕ) (again : Bool) (next : Cursor) (count : ℕ) : Type 0 where
   pub inside : count ≤ most
   pub on : again ≡ true → Left size f c most next count
   pub over : again ≡ false → Leads c (pointers size most) f next (pointersAt size f (c .at) count)
   pub within : again ≡ false → next .number ≡ 0 → c .at + size * count ≤ length f
 
-pub going-start : {size : ℕ} {f : List ℕ} {c : Cursor} {most : ℕ} → Going size f c most true c 0
+pub going-start : {size : ℕ} {f : List ℕ} {c : Cursor} {most : ℕ} → PointersGoing size f c most true c 0
 unfolding pointersAt
 going-start = record {
   inside = omega arith;
@@ -89,9 +89,9 @@ going-start = record {
   within = λ e. absurd (true≢false e);
 }
 
-module _ {size : ℕ} {f : List ℕ} {c : Cursor} {most : ℕ} {again : Bool} {next : Cursor} {count : ℕ} (g : Going size f c most again next count) (goes : again ≡ true)
+module _ {size : ℕ} {f : List ℕ} {c : Cursor} {most : ℕ} {again : Bool} {next : Cursor} {count : ℕ} (g : PointersGoing size f c most again next count) (goes : again ≡ true)
     {more : Bool} {d : Cursor} (turn : PointerRead size next f (most - count) more d) where
-  pub going-next : more ≡ true → Going size f c most more d (count + 1)
+  pub going-next : more ≡ true → PointersGoing size f c most more d (count + 1)
   unfolding pointers
   going-next e = record {
     inside = omega (arith, next-read .room);
@@ -112,7 +112,7 @@ module _ {size : ℕ} {f : List ℕ} {c : Cursor} {most : ℕ} {again : Bool} {n
       one : most - count ≡ suc (most - (count + 1))
       one = omega (arith, next-read .room)
 
-  pub going-last : more ≡ false → Going size f c most more d count
+  pub going-last : more ≡ false → PointersGoing size f c most more d count
   going-last e = record {
     inside = g .inside;
     on = λ z. absurd (false≢true (sym e ∙ z));

@@ -12,7 +12,7 @@ use Rattle.xcf_numbers.specs.Refusal
 use Rattle.xcf_table.specs.Table.{rowAt}
 use Rattle.xcf_range.proofs.Bounds.{bounds-within}
 use Rattle.xcf_store.specs.Pointer.{pointerSize}
-use Rattle.xcf_window.specs.Usable.{inRange, inFile, usableRow, fits, rowRefusal}
+use Rattle.xcf_window.specs.Usable.{inRange, inFile, decodableRow, fits, rowRefusal}
 use Rattle.xcf_decode.specs.Answer.{refusal, drawableRefusal, decoding}
 use Rattle.xcf_window.proofs.TilePointers.{tiles-inside}
 use Rattle.xcf_drawable.specs.Drawable.{Drawable, drawableBytes}
@@ -45,7 +45,7 @@ module _ {f : List ℕ} {p : ℕ} (d : Drawable) (fine : Writable d) (kind : (1 
       rw (eq-eqb _ _ (fine .drawn .range .count), le-leb _ _ inside)
 
   decodable : (table : ℕ) → table ≡ tableSize → drawableRefusal pointerSize f table (readRow d p) 1 true ≡ refusal Refusal.accepted 0
-  unfolding drawableRefusal rowRefusal usableRow
+  unfolding drawableRefusal rowRefusal decodableRow
   decodable table size = rw (eq-eqb _ _ size, le-leb _ _ small, in-range, in-file, walked d s fine small some .gives)
 
 pub drawable-decoded : (d : Drawable) (p : ℕ) (f table : List ℕ) (k : ℕ) (buffer marks : List ℕ)

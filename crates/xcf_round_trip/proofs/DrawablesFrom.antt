@@ -22,7 +22,7 @@ use Rattle.xcf_table.specs.declared.Row.{Row}
 use Rattle.xcf_table.specs.Table.{rowAt}
 use Rattle.xcf_table.proofs.Rows.{row-there}
 use Rattle.xcf_table.specs.declared.canvas.Canvas.{Canvas}
-use Rattle.xcf_usable.specs.Usable.{isUnused, before, masked, usable}
+use Rattle.xcf_usable.specs.Usable.{isUnused, countBefore, masked, usable}
 use Rattle.xcf_usable.proofs.AllUsable.{all-usable}
 use Rattle.xcf_usable.proofs.RowFacts.{LayerFacts, ChannelFacts, MaskFacts, CanvasFacts, kind-listed, layer-facts, channel-facts, canvas-facts}
 use Rattle.xcf_usable.proofs.Counts.{before-next}
@@ -139,7 +139,7 @@ abbrev ofKind : ℕ → Row → Bool
 ofKind kind r = eqb (r .kind) kind
 
 kinds-from : (table : List ℕ) (kind n k : ℕ)
-    → before (ofKind kind) table k + length (kindPlaces kind (rowsFrom table n k) []) ≡ before (ofKind kind) table (k + n)
+    → countBefore (ofKind kind) table k + length (kindPlaces kind (rowsFrom table n k) []) ≡ countBefore (ofKind kind) table (k + n)
 unfolding kindPlaces rowsFrom
 kinds-from table kind zero k = simp add-zero
 kinds-from table kind (suc n) k =
@@ -147,8 +147,8 @@ kinds-from table kind (suc n) k =
     rw (next, length-append, one-when, ← add-assoc, ← before-next (ofKind kind) table k) (kinds-from table kind n (k + 1))
 
 places-counted : (table names : List ℕ) (kind n p : ℕ) (pixels : List ℕ)
-    → length (placesOf kind (drawablesFrom table n 0 names pixels) p) ≡ before (ofKind kind) table n
-unfolding before
+    → length (placesOf kind (drawablesFrom table n 0 names pixels) p) ≡ countBefore (ofKind kind) table n
+unfolding countBefore
 places-counted table names kind n p pixels =
     kind-length kind (rowsOf (drawablesFrom table n 0 names pixels)) _
     ∙ rw (rows-are table names n 0 pixels) (simp zero-add at (kinds-from table kind n 0))

@@ -19,22 +19,22 @@ use Rattle.xcf_parse.specs.Hierarchy.{agrees, pointer, restTurn, rest, tiles, h
 use Rattle.xcf_store.specs.Word.{words}
 use Rattle.xcf_structure.specs.Structure.{hierarchyBytes, levelBytes}
 use Rattle.xcf_round_trip.proofs.Parts.{Stands, Gives, Rises}
-use Rattle.xcf_round_trip.proofs.Steps.{Reads, reads-gives, gives-reads, then, then-here, then-length, ends, reads-must, reads-jump}
+use Rattle.xcf_round_trip.proofs.Steps.{ReadsTo, reads-gives, gives-reads, then, then-here, then-length, ends, reads-must, reads-jump}
 use Rattle.xcf_round_trip.proofs.WordsRead.{words-rest, reads-number}
 
 -- the first of some words: one that has to be n, and a pointer
 module _ {f : List ℕ} {p : ℕ} (n : ℕ) (ns : List ℕ) (low : n < 4294967296) (s : Stands f p (words (n ∷ ns))) where
-  pub reads-agrees : Reads (agrees n) f p tt (p + 4)
+  pub reads-agrees : ReadsTo (agrees n) f p tt (p + 4)
   unfolding agrees word
   reads-agrees = then-here _ (then _ (reads-number n ns s low) (reads-must (eqb n n) Refusal.disagrees p (eq-eqb n n refl)))
 
-  pub reads-pointer : 0 < n → Reads (pointer pointerSize) f p n (p + 4)
+  pub reads-pointer : 0 < n → ReadsTo (pointer pointerSize) f p n (p + 4)
   unfolding pointer
   reads-pointer some =
       then-here _ (then _ (reads-number n ns s low) (then _ (reads-must _ Refusal.noPointer p (rw (ne-eqb n 0 (λ e. omega arith)))) ends))
 
 -- a 0 where further pointers could stand
-reads-rest : {f : List ℕ} {p : ℕ} → Stands f p (words (0 ∷ [])) → Reads (rest pointerSize) f p tt (p + 4)
+reads-rest : {f : List ℕ} {p : ℕ} → Stands f p (words (0 ∷ [])) → ReadsTo (rest pointerSize) f p tt (p + 4)
 unfolding rest loop turns restTurn
 reads-rest s = then-length _ (then _ (then _ (reads-number 0 [] s (omega arith)) ends) ends)
 

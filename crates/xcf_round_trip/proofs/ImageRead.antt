@@ -38,7 +38,7 @@ use Rattle.xcf_write.proofs.FileLaws.{rows-length}
 use Rattle.xcf_write.proofs.Accepted.{InputAccepted}
 use Rattle.xcf_round_trip.proofs.Parts.{Stands, Gives, Rises, placesOf, addAll}
 use Rattle.xcf_round_trip.proofs.Stands.{stands-front, stands-behind}
-use Rattle.xcf_round_trip.proofs.Steps.{Reads, reads-gives, gives-reads, then, then-here, ends, ends-as, reads-bytes, reads-must}
+use Rattle.xcf_round_trip.proofs.Steps.{ReadsTo, reads-gives, gives-reads, then, then-here, ends, ends-as, reads-bytes, reads-must}
 use Rattle.xcf_round_trip.proofs.WordsRead.{words-rest, reads-number}
 use Rattle.xcf_round_trip.proofs.PropertiesRead.{reads-image-properties}
 use Rattle.xcf_round_trip.proofs.StructureRead.{reads-side}
@@ -61,7 +61,7 @@ base-ok v base (inl e) h = rw (e, le-leb base 2 (omega arith), ne-eqb base 2 (om
 base-ok v base (inr e) h = rw (e, le-leb base 2 (omega arith))
 
 -- a known tag behind the magic bytes, and the base type
-reads-header : {f : List ℕ} (v : ℕ) → Known v → Stands f 0 magic → Stands f 9 (getD tags v []) → Reads header f 0 v 14
+reads-header : {f : List ℕ} (v : ℕ) → Known v → Stands f 0 magic → Stands f 9 (getD tags v []) → ReadsTo header f 0 v 14
 unfolding same header
 reads-header v w s t =
     let known = tag-known v w in
@@ -70,7 +70,7 @@ reads-header v w s t =
     (then-here _ (then _ tag (then _ (reads-must _ Refusal.badVersion 9 (rw (known .0, known .1))) (ends-as (known .0)))))))
 
 reads-base : {f : List ℕ} {p : ℕ} (v base : ℕ) → Known v → base ≤ 1 → Stands f p (words (base ∷ []))
-    → Reads (baseType v) f p base (p + 4)
+    → ReadsTo (baseType v) f p base (p + 4)
 unfolding word baseType
 reads-base v base w h s =
     then-here _ (then _ (reads-number base [] s (omega arith)) (then _ (reads-must _ Refusal.badBase _ (base-ok v base w h)) ends))
@@ -104,7 +104,7 @@ module _ {f : List ℕ} (c : Canvas) (v : ℕ) (layers channels : List ℕ) (w :
   unfolding wordBytes flatMap propertyBytes imageProperties
   behind-list = stands-behind (listBytes imageProperties) _ behind-sides
 
-  reads-head : sideOk (c .width) ≡ true → sideOk (c .height) ≡ true → c .base ≤ 1 → Reads head f 0 (headOf c v) 43
+  reads-head : sideOk (c .width) ≡ true → sideOk (c .height) ≡ true → c .base ≤ 1 → ReadsTo head f 0 (headOf c v) 43
   unfolding head sideOk
   reads-head wide high base =
       let sides = stands-front (sidesBytes c) _ behind-tag in

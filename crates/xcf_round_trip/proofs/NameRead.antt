@@ -13,13 +13,13 @@ use Rattle.xcf_walk.specs.Fields.{word, string}
 use Rattle.xcf_structure.specs.Structure.{nameBytes}
 use Rattle.xcf_round_trip.proofs.Parts.{Stands}
 use Rattle.xcf_round_trip.proofs.Stands.{stands-front, stands-behind}
-use Rattle.xcf_round_trip.proofs.Steps.{Reads, then, then-here, ends, reads-bytes, reads-must}
+use Rattle.xcf_round_trip.proofs.Steps.{ReadsTo, then, then-here, ends, reads-bytes, reads-must}
 use Rattle.xcf_round_trip.proofs.WordsRead.{reads-word}
 
 -- a length word and so many bytes, the last of them zero
 reads-string : {f : List ℕ} {p : ℕ} (bs : List ℕ) → length bs < 4294967296 → getD bs (length bs - 1) 0 ≡ 0
     → Stands f p (wordBytes (length bs) ++ bs)
-    → Reads string f p (record { place = p + 4; length = length bs - 1 }) (p + length (wordBytes (length bs) ++ bs))
+    → ReadsTo string f p (record { place = p + 4; length = length bs - 1 }) (p + length (wordBytes (length bs) ++ bs))
 unfolding word string wordBytes
 reads-string {f} {p} bs small zero s =
     let end : p + 4 + length bs ≡ p + length (wordBytes (length bs) ++ bs) = omega arith in
@@ -34,7 +34,7 @@ unfolding nameBytes
 name-bytes b bs = rw (ne-eqb (suc (length bs)) 0 (omega arith), length-append)
 
 pub reads-name : {f : List ℕ} {p : ℕ} (name : List ℕ) → length name < 4294967295 → Stands f p (nameBytes name)
-    → Reads string f p (record { place = p + 4; length = length name }) (p + length (nameBytes name))
+    → ReadsTo string f p (record { place = p + 4; length = length name }) (p + length (nameBytes name))
 unfolding nameBytes wordBytes
 reads-name [] small s = reads-string [] (omega arith) refl s
 reads-name (b ∷ bs) small s =

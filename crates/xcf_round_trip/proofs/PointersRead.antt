@@ -18,7 +18,7 @@ use Rattle.xcf_body.specs.Rows.{drawablesBytes, placesFrom}
 use Rattle.xcf_image.specs.Image.{kindPlaces}
 use Rattle.xcf_drawable.proofs.DrawableLength.{drawable-length}
 use Rattle.xcf_round_trip.proofs.Parts.{Stands, Rises, placesOf}
-use Rattle.xcf_round_trip.proofs.Steps.{Reads, then, then-here, ends, reads-must}
+use Rattle.xcf_round_trip.proofs.Steps.{ReadsTo, then, then-here, ends, reads-must}
 use Rattle.xcf_round_trip.proofs.WordsRead.{words-rest, reads-number}
 
 -- pointers as they are written, closed by a zero
@@ -26,7 +26,7 @@ abbrev pub closed : List ℕ → List ℕ
 closed ps = words (ps ++ (0 ∷ []))
 
 pub reads-pointers : {f : List ℕ} {p : ℕ} (most before end : ℕ) (ps : List ℕ) → end ≤ 4294967296 → Rises before ps end
-    → length ps ≤ most → Stands f p (closed ps) → Reads (pointers pointerSize most) f p ps (p + length (closed ps))
+    → length ps ≤ most → Stands f p (closed ps) → ReadsTo (pointers pointerSize most) f p ps (p + length (closed ps))
 unfolding pointers flatMap wordBytes Rises
 reads-pointers zero before end [] low rise few s =
     then-here _ (then _ (reads-number 0 [] s (omega arith)) (then _ (reads-must _ Refusal.tooMany _ refl) ends))

@@ -16,7 +16,7 @@ use Rattle.xcf_numbers.specs.PropertyType
 use Rattle.xcf_property.specs.declared.Content.{Content}
 use Rattle.xcf_property.specs.declared.Properties.{Properties}
 use Rattle.xcf_store.specs.Word.{wordOf, wordBytes, words, when}
-use Rattle.xcf_property.specs.Property.{imageList, lengthOk, contentOf, allowed, activeType, absent, put}
+use Rattle.xcf_property.specs.Property.{imageList, lengthOk, contentOf, allowed, activeType, defaults, put}
 use Rattle.xcf_walk.specs.Property.{properties}
 use Rattle.xcf_laws.proofs.Cases.{cond-same, by-cases}
 use Rattle.xcf_table.specs.declared.Row.{Row}
@@ -25,7 +25,7 @@ use Rattle.xcf_structure.specs.Structure.{Property, propertyBytes, listBytes, w
 use Rattle.xcf_image.specs.Image.{imageProperties}
 use Rattle.xcf_store.proofs.Words.{words-length}
 use Rattle.xcf_round_trip.proofs.Parts.{Stands, propertiesOf}
-use Rattle.xcf_round_trip.proofs.Steps.{Reads}
+use Rattle.xcf_round_trip.proofs.Steps.{ReadsTo}
 use Rattle.xcf_round_trip.proofs.WordsRead.{word-value}
 use Rattle.xcf_round_trip.proofs.PropertyList.{putAll, Plain, Taken, AllTaken, closes, goes, reads-list}
 
@@ -175,7 +175,7 @@ module _ (r : Row) (hasMask : Bool) (l : Listed r) where
       (closes refl (bare (r .kind) PropertyType.end (omega arith) refl)))))))
 
   drawable-says : (layer : Bool) → isLayer r ≡ layer
-      → putAll (r .kind) (drawableProperties r hasMask) (absent (r .kind) 0) ≡ propertiesOf r hasMask
+      → putAll (r .kind) (drawableProperties r hasMask) (defaults (r .kind) 0) ≡ propertiesOf r hasMask
   unfolding drawableProperties put activeType
   drawable-says true e =
       simp (
@@ -188,7 +188,7 @@ module _ (r : Row) (hasMask : Bool) (l : Listed r) where
   drawable-says false e = simp (e, content-word (r .opacity) opacity-small, put-entries)
 
   pub reads-properties : {f : List ℕ} {p : ℕ} → Stands f p (listBytes (drawableProperties r hasMask))
-      → Reads (properties (r .kind) 0) f p (propertiesOf r hasMask) (p + length (listBytes (drawableProperties r hasMask)))
+      → ReadsTo (properties (r .kind) 0) f p (propertiesOf r hasMask) (p + length (listBytes (drawableProperties r hasMask)))
   reads-properties s = rw (drawable-says (isLayer r) refl) at (reads-list drawable-taken s)
 
 image-taken : AllTaken imageList imageProperties
@@ -199,7 +199,7 @@ image-taken =
     (closes refl (bare imageList 0 (omega arith) refl))
 
 pub reads-image-properties : {f : List ℕ} {p : ℕ} → Stands f p (listBytes imageProperties)
-    → Reads (properties imageList 0) f p (record {
+    → ReadsTo (properties imageList 0) f p (record {
       compression = 1;
       unmapped = 0;
       opacity = fullOpacity;

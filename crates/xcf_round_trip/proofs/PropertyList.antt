@@ -15,14 +15,14 @@ use Rattle.xcf_numbers.specs.Refusal
 use Rattle.xcf_property.specs.declared.Properties.{Properties}
 use Rattle.xcf_walk.specs.Walk.{more, last, turns, loop}
 use Rattle.xcf_walk.specs.Fields.{word}
-use Rattle.xcf_property.specs.Property.{lengthOk, contentOf, isColourMap, isFloating, lacksMap, allowed, absent, put}
+use Rattle.xcf_property.specs.Property.{lengthOk, contentOf, isColourMap, isFloating, lacksMap, allowed, defaults, put}
 use Rattle.xcf_walk.specs.Property.{payload, content, property, propertyTurn, properties}
 use Rattle.xcf_laws.proofs.Cases.{cond-same}
 use Rattle.xcf_store.specs.Word.{wordBytes}
 use Rattle.xcf_structure.specs.Structure.{Property, propertyBytes, listBytes}
 use Rattle.xcf_round_trip.proofs.Parts.{Stands}
 use Rattle.xcf_round_trip.proofs.Stands.{stands-front, stands-behind}
-use Rattle.xcf_round_trip.proofs.Steps.{Reads, then, then-here, then-length, ends, reads-bytes, reads-must}
+use Rattle.xcf_round_trip.proofs.Steps.{ReadsTo, then, then-here, then-length, ends, reads-bytes, reads-must}
 use Rattle.xcf_round_trip.proofs.WordsRead.{reads-word}
 
 -- a list after one more entry, and after some
@@ -51,13 +51,13 @@ pub data AllTaken (list : ℕ) : List Property → Type 0 where
 
 module _ {f : List ℕ} {list : ℕ} {x : Property} (t : Taken list x) where
   reads-content : (p at : ℕ) → Stands f p (x .payload)
-      → Reads (content list (x .kind) at (length (x .payload))) f p (contentOf (x .payload)) (p + length (x .payload))
+      → ReadsTo (content list (x .kind) at (length (x .payload))) f p (contentOf (x .payload)) (p + length (x .payload))
   unfolding content isColourMap payload
   reads-content p at s =
       rw (ne-eqb _ _ (t .plain .1), and-false) (then _ (reads-must _ Refusal.badLength at (t .sized)) (then _ (reads-bytes (x .payload) s) ends))
 
   reads-property : (p : ℕ) → Stands f p (propertyBytes x)
-      → Reads (property list) f p
+      → ReadsTo (property list) f p
       (record { kind = x .kind; start = p; place = p + 4 + 4; length = length (x .payload); content = contentOf (x .payload) })
       (p + length (propertyBytes x))
   unfolding word property propertyBytes wordBytes
@@ -70,7 +70,7 @@ module _ {f : List ℕ} {list : ℕ} {x : Property} (t : Taken list x) where
       (then-here _ (then _ (reads-content (p + 4 + 4) _ (stands-behind (wordBytes _) _ behind)) ends))))))
 
   reads-turn : (p : ℕ) (q : Properties) → q .unmapped ≡ 0 → Stands f p (propertyBytes x)
-      → Reads (propertyTurn list q) f p
+      → ReadsTo (propertyTurn list q) f p
       (cond (eqb (x .kind) PropertyType.end) (last (putEntry list x q)) (more (putEntry list x q))) (p + length (propertyBytes x))
   unfolding propertyTurn isFloating lacksMap
   reads-turn p q mapped s =
@@ -89,7 +89,7 @@ put-mapped list x q mapped = rw mapped (cond-same (eqb (x .kind) PropertyType.co
 -- the turns of a list, more of them than bytes are left
 turns-read : {f : List ℕ} {p list : ℕ} {xs : List Property} (q : Properties) (n : ℕ) → AllTaken list xs → q .unmapped ≡ 0
     → length f ≤ p + n → Stands f p (listBytes xs)
-    → Reads (turns (suc n) (propertyTurn list) q) f p (putAll list xs q) (p + length (listBytes xs))
+    → ReadsTo (turns (suc n) (propertyTurn list) q) f p (putAll list xs q) (p + length (listBytes xs))
 unfolding turns putAll flatMap
 turns-read q n (closes {x} e t) mapped enough s =
     rw append-nil (then _ (reads-turn t _ q mapped (stands-front (propertyBytes x) [] s)) (rw e ends))
@@ -103,6 +103,6 @@ turns-read q (suc n) (goes {x} {xs} e t ts) mapped enough s =
     (stands-behind (propertyBytes x) (listBytes xs) s))))
 
 pub reads-list : {f : List ℕ} {p list : ℕ} {xs : List Property} → AllTaken list xs → Stands f p (listBytes xs)
-    → Reads (properties list 0) f p (putAll list xs (absent list 0)) (p + length (listBytes xs))
+    → ReadsTo (properties list 0) f p (putAll list xs (defaults list 0)) (p + length (listBytes xs))
 unfolding properties loop
 reads-list {f} ts s = then-length _ (turns-read _ (length f) ts refl (omega arith) s)

@@ -17,7 +17,7 @@ use Rattle.xcf_table.specs.declared.canvas.Canvas.{Canvas}
 use Rattle.xcf_parse.specs.declared.drawable.Fields.{Fields}
 use Rattle.xcf_parse.specs.declared.drawable.Layer.{Layer}
 use Rattle.xcf_row.specs.Row.{layerRow, channelRow, maskOwner, channelOwner}
-use Rattle.xcf_usable.specs.Usable.{isLayer, isChannel, isUnused, before, rowBefore, seenAt, masked, usable}
+use Rattle.xcf_usable.specs.Usable.{isLayer, isChannel, isUnused, countBefore, rowBefore, seenAt, masked, usable}
 use Rattle.xcf_usable.proofs.Counts.{before-next}
 use Rattle.xcf_usable.proofs.RowFacts.{Use, unused, layer, mask, channel}
 use Rattle.xcf_round_trip.specs.Taken.{RowExcepted, RowsExcepted}
@@ -28,13 +28,13 @@ use Rattle.xcf_round_trip.proofs.RowGiven.{Like, layer-drawn, layer-fit
 
 -- the first n rows are taken: at most l layers and m channels, none unused
 pub record TakenTo (c : Canvas) (names : ℕ) (table : List ℕ) (l m n : ℕ) : Type 0 where
-  pub layers : before isLayer table n ≤ l
-  pub channels : before isChannel table n ≤ m
-  pub unused : before isUnused table n ≡ 0
+  pub layers : countBefore isLayer table n ≤ l
+  pub channels : countBefore isChannel table n ≤ m
+  pub unused : countBefore isUnused table n ≡ 0
   pub rows : (k : ℕ) → k < n → usable c names table k ≡ true
 
 pub taken-none : (c : Canvas) (names : ℕ) (table : List ℕ) → TakenTo c names table 0 0 0
-unfolding before
+unfolding countBefore
 taken-none c names table = record { layers = omega arith; channels = omega arith; unused = refl; rows = λ k h. absurd (omega arith) }
 
 module _ (c : Canvas) (names : ℕ) (table : List ℕ) (excepted : (k : ℕ) → k < tableRows → RowExcepted names (rowAt table k))

@@ -27,7 +27,7 @@ use Rattle.xcf_drawable.specs.Parts.{Writable}
 use Rattle.xcf_store.proofs.Words.{words-length}
 use Rattle.xcf_round_trip.proofs.Parts.{Stands, Gives, propertiesOf, sidesSize}
 use Rattle.xcf_round_trip.proofs.Stands.{stands-front, stands-behind}
-use Rattle.xcf_round_trip.proofs.Steps.{Reads, reads-gives, then, then-here, ends, reads-must}
+use Rattle.xcf_round_trip.proofs.Steps.{ReadsTo, reads-gives, then, then-here, ends, reads-must}
 use Rattle.xcf_round_trip.proofs.WordsRead.{words-rest, reads-number}
 use Rattle.xcf_round_trip.proofs.NameRead.{reads-name}
 use Rattle.xcf_round_trip.proofs.PropertiesRead.{Listed, reads-properties}
@@ -44,16 +44,16 @@ module _ {f : List ℕ} {p : ℕ} (n : ℕ) (ns : List ℕ) (range : (1 ≤ n) �
   unfolding sideOk
   side-ok = bounds-within 1 sideLimit n range
 
-  pub reads-side : Reads side f p n (p + 4)
+  pub reads-side : ReadsTo side f p n (p + 4)
   unfolding side word
   reads-side = then-here _ (then _ (reads-number n ns s (omega arith)) (then _ (reads-must _ Refusal.badSide p side-ok) ends))
 
-  reads-side-like : Reads (sideLike n) f p tt (p + 4)
+  reads-side-like : ReadsTo (sideLike n) f p tt (p + 4)
   unfolding sideLike
   reads-side-like = then-here _ (then _ reads-side (reads-must _ Refusal.disagrees p (eq-eqb n n refl)))
 
 reads-type : {f : List ℕ} {p : ℕ} (base t : ℕ) (ns : List ℕ) → typeOk base t ≡ true → t ≤ 3 → Stands f p (words (t ∷ ns))
-    → Reads (layerType base) f p t (p + 4)
+    → ReadsTo (layerType base) f p t (p + 4)
 unfolding layerType word
 reads-type base t ns ok low s = then-here _ (then _ (reads-number t ns s (omega arith)) (then _ (reads-must _ Refusal.disagrees _ ok) ends))
 
@@ -89,11 +89,11 @@ module _ (d : Drawable) (w : Writable d) (l : Listed (d .row)) (h : ℕ) (some :
   -- behind the hierarchy pointer stand some words more
   reads-fields : {f : List ℕ} {q : ℕ} (list : ℕ) (ms : List ℕ) → d .row .kind ≡ list
       → Stands f q (nameBytes (d .name) ++ (listOf d ++ words (h ∷ ms)))
-      → Reads (fields 4 list) f q (fieldsOf d q h) (q + length (nameBytes (d .name)) + length (listOf d) + 4)
+      → ReadsTo (fields 4 list) f q (fieldsOf d q h) (q + length (nameBytes (d .name)) + length (listOf d) + 4)
   unfolding fields
   reads-fields list ms kind s =
       let behind = stands-behind (nameBytes (d .name)) _ s in
-      let size : length (d .name) < 4294967295 = omega (arith, w .named, w .drawn .range .short) in
+      let size : length (d .name) < 4294967295 = omega (arith, w .named, w .short) in
       rw (← kind)
       (then _ (reads-name (d .name) size (stands-front (nameBytes (d .name)) _ s))
       (then-here _ (then _ (reads-properties (d .row) (d .hasMask) l (stands-front (listOf d) _ behind))

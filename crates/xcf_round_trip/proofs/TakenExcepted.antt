@@ -15,7 +15,7 @@ use Rattle.xcf_table.specs.declared.Row.{Row}
 use Rattle.xcf_table.specs.Table.{unusedRow, rowAt}
 use Rattle.xcf_table.specs.declared.canvas.Canvas.{Canvas}
 use Rattle.xcf_usable.specs.declared.seen.Seen.{Seen}
-use Rattle.xcf_usable.specs.Usable.{isChannel, isActiveLayer, isActiveChannel, isSelection, channelFlagsOk, before, seenAt, masked, noSecond, drawableOk, layerOk, layerFollows, channelOk, maskFollows, channelFollows, usableRow, usable}
+use Rattle.xcf_usable.specs.Usable.{isChannel, isActiveLayer, isActiveChannel, isSelection, channelFlagsOk, countBefore, seenAt, masked, noSecond, drawableOk, layerOk, layerFollows, channelOk, maskFollows, channelFollows, usableRow, usable}
 use Rattle.xcf_usable.proofs.Each.{each}
 use Rattle.xcf_usable.proofs.Counts.{few-pass}
 use Rattle.xcf_usable.proofs.AllUsable.{all-usable}
@@ -59,8 +59,8 @@ module _ (c : Canvas) (names k : ℕ) (s : Seen) (r : Row) (hasMask : Bool) wher
   layer-alone : r .kind ≡ Kind.layer → layerFollows s r ≡ true → NoSeconds s r
   unfolding layerFollows
   layer-alone one e =
-      let t = each (ltb (s .layers) layerLimit ∷ eqb (s .channels) 0 ∷ eqb (s .unused) 0 ∷ noSecond (isActiveLayer r) (s .chosen) ∷ []) e in
-      record { chosen = t 3; active = rw (eq-eqb _ _ one); selection = rw (eq-eqb _ _ one) }
+      let t = each (ltb (s .layers) layerLimit ∷ eqb (s .channels) 0 ∷ eqb (s .unused) 0 ∷ noSecond (isActiveLayer r) (s .current) ∷ []) e in
+      record { current = t 3; active = rw (eq-eqb _ _ one); selection = rw (eq-eqb _ _ one) }
 
   channel-alone : eqb (r .kind) Kind.layer ≡ false → channelOk s r ≡ true → NoSeconds s r
   unfolding channelOk
@@ -70,11 +70,11 @@ module _ (c : Canvas) (names k : ℕ) (s : Seen) (r : Row) (hasMask : Bool) wher
       (eqb (r .depth) 1 ∷ eqb (r .form) 2 ∷ eqb (r .mode) 0 ∷ channelFlagsOk r ∷ noSecond (isActiveChannel r) (s .active)
       ∷ noSecond (isSelection r) (s .selections) ∷ [])
       e in
-      record { chosen = rw other; active = t 4; selection = t 5 }
+      record { current = rw other; active = t 4; selection = t 5 }
 
   row-alone : Use c names k s r hasMask → usableRow c names k s r hasMask ≡ true → NoSeconds s r
   unfolding usableRow
-  row-alone (unused _ z) e = rw (zero-row r z) (record { chosen = refl; active = refl; selection = refl })
+  row-alone (unused _ z) e = rw (zero-row r z) (record { current = refl; active = refl; selection = refl })
   row-alone (layer d l b) e =
       layer-alone (l .kind)
       (each
@@ -105,17 +105,17 @@ module _ (c : Canvas) (names : ℕ) (table : List ℕ) (k : ℕ) (ok : usable c 
   unfolding usable
   alone = row-alone c names k (seenAt table k) (rowAt table k) (masked table k) (row-use c names table k ok) ok
 
-  chosen-alone : isActiveLayer (rowAt table k) ≡ true → before isActiveLayer table k < 1
+  current-alone : isActiveLayer (rowAt table k) ≡ true → countBefore isActiveLayer table k < 1
   unfolding seenAt
-  chosen-alone = none-before (before isActiveLayer table k) (alone .chosen)
+  current-alone = none-before (countBefore isActiveLayer table k) (alone .current)
 
-  active-alone : isActiveChannel (rowAt table k) ≡ true → before isActiveChannel table k < 1
+  active-alone : isActiveChannel (rowAt table k) ≡ true → countBefore isActiveChannel table k < 1
   unfolding seenAt
-  active-alone = none-before (before isActiveChannel table k) (alone .active)
+  active-alone = none-before (countBefore isActiveChannel table k) (alone .active)
 
-  selection-alone : isSelection (rowAt table k) ≡ true → before isSelection table k < 1
+  selection-alone : isSelection (rowAt table k) ≡ true → countBefore isSelection table k < 1
   unfolding seenAt
-  selection-alone = none-before (before isSelection table k) (alone .selection)
+  selection-alone = none-before (countBefore isSelection table k) (alone .selection)
 
 pub taken-is-excepted : TakenIsExcepted
 taken-is-excepted c table names none =
@@ -123,7 +123,7 @@ taken-is-excepted c table names none =
       λ k h. use-excepted c names k (seenAt table k) (rowAt table k) (masked table k) (row-use c names table k (ok k h)),
       record {
         selection = few-pass isSelection table 1 tableRows (λ k h. selection-alone c names table k (ok k h));
-        layer = few-pass isActiveLayer table 1 tableRows (λ k h. chosen-alone c names table k (ok k h));
+        layer = few-pass isActiveLayer table 1 tableRows (λ k h. current-alone c names table k (ok k h));
         channel = few-pass isActiveChannel table 1 tableRows (λ k h. active-alone c names table k (ok k h));
       },
     )

@@ -14,7 +14,7 @@ use Rattle.xcf_usable.specs.Usable.{apply, isActiveLayer, isActiveChannel, isSe
 use Rattle.xcf_usable.proofs.RowFacts.{DrawableFacts, LayerFacts, ChannelFacts, MaskFacts, CanvasFacts, BeforeLayer, BeforeChannel, Use, unused, layer, mask, channel}
 
 pub record NoSeconds (s : Seen) (r : Row) : Type 0 where
-  pub chosen : noSecond (isActiveLayer r) (s .chosen) ≡ true
+  pub current : noSecond (isActiveLayer r) (s .current) ≡ true
   pub active : noSecond (isActiveChannel r) (s .active) ≡ true
   pub selection : noSecond (isSelection r) (s .selections) ≡ true
 
@@ -54,7 +54,7 @@ module _ (c : Canvas) (names k : ℕ) (s : Seen) (r : Row) (hasMask : Bool) wher
 
   layer-follows : BeforeLayer s → NoSeconds s r → layerFollows s r ≡ true
   unfolding layerFollows
-  layer-follows b o = rw (lt-ltb _ _ (b .few), eq-eqb _ _ (b .channels), eq-eqb _ _ (b .unused), o .chosen)
+  layer-follows b o = rw (lt-ltb _ _ (b .few), eq-eqb _ _ (b .channels), eq-eqb _ _ (b .unused), o .current)
 
   channel-passes : ChannelFacts r → NoSeconds s r → channelOk s r ≡ true
   unfolding channelOk

@@ -9,7 +9,7 @@ use Rattle.xcf_store.specs.Word.{bigEndian, wordBytes, words}
 use Rattle.xcf_walk.specs.Fields.{number}
 use Rattle.xcf_round_trip.proofs.Parts.{Stands}
 use Rattle.xcf_round_trip.proofs.Stands.{stands-front, stands-behind}
-use Rattle.xcf_round_trip.proofs.Steps.{Reads, then, ends-as, reads-bytes}
+use Rattle.xcf_round_trip.proofs.Steps.{ReadsTo, then, ends-as, reads-bytes}
 
 pub word-value : (n : ℕ) → n < 4294967296 → bigEndian 0 (wordBytes n) ≡ n
 unfolding bigEndian wordBytes
@@ -25,7 +25,7 @@ word-value n small =
       div-add-mod' n 256,
     )
 
-pub reads-word : {f : List ℕ} {p : ℕ} (n : ℕ) → n < 4294967296 → Stands f p (wordBytes n) → Reads (number 4) f p n (p + 4)
+pub reads-word : {f : List ℕ} {p : ℕ} (n : ℕ) → n < 4294967296 → Stands f p (wordBytes n) → ReadsTo (number 4) f p n (p + 4)
 unfolding number wordBytes
 reads-word n small s = then _ (reads-bytes (wordBytes n) s) (ends-as (word-value n small))
 
@@ -38,5 +38,5 @@ module _ {f : List ℕ} {p : ℕ} (n : ℕ) (ns : List ℕ) (s : Stands f p (wor
   unfolding flatMap wordBytes
   words-rest = stands-behind (wordBytes n) (words ns) s
 
-  pub reads-number : n < 4294967296 → Reads (number 4) f p n (p + 4)
+  pub reads-number : n < 4294967296 → ReadsTo (number 4) f p n (p + 4)
   reads-number small = reads-word n small words-first

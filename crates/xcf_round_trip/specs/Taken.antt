@@ -10,7 +10,7 @@ use Rattle.xcf_table.specs.declared.Row.{Row}
 use Rattle.xcf_table.specs.Table.{rowAt}
 use Rattle.xcf_table.specs.declared.canvas.Canvas.{Canvas}
 use Rattle.xcf_read.specs.Answer.{reading}
-use Rattle.xcf_usable.specs.Usable.{before, isActiveLayer, isActiveChannel, isSelection, badRow}
+use Rattle.xcf_usable.specs.Usable.{countBefore, isActiveLayer, isActiveChannel, isSelection, badRow}
 use Rattle.xcf_round_trip.specs.RoundTrip.{withPlaces}
 
 -- what is asked of each row: 6 at most 1,024, 5 plus 6 at most the number of lent name bytes, 7 and 8 zero, mode at most 21, type at
@@ -26,9 +26,9 @@ pub record RowExcepted (names : ℕ) (r : Row) : Type 0 where
 
 -- and of all: selection on at most one channel or mask, active on at most one layer and one channel or mask
 pub record RowsExcepted (table : List ℕ) : Type 0 where
-  pub selection : before isSelection table tableRows ≤ 1
-  pub layer : before isActiveLayer table tableRows ≤ 1
-  pub channel : before isActiveChannel table tableRows ≤ 1
+  pub selection : countBefore isSelection table tableRows ≤ 1
+  pub layer : countBefore isActiveLayer table tableRows ≤ 1
+  pub channel : countBefore isActiveChannel table tableRows ≤ 1
 
 -- any file that is accepted, and any table with its rows but for fields 5, 7 and 8, and with no name place in an unused row
 abbrev pub GivenIsTaken : Type 0

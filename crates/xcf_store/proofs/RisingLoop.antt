@@ -1,4 +1,4 @@
--- The loop over rising pointers: `Going` holds at its head (`going-start`), one that rises keeps it (`going-next`), and where
+-- The loop over rising pointers: `RisingGoing` holds at its head (`going-start`), one that rises keeps it (`going-next`), and where
 -- the next does not rise (`going-falls`, `going-beyond`) or none is left (`going-over`) it names the answer.
 -- Assumes nothing.
 use Prim.Native.Nat.{ℕ, zero, suc, _+_, _-_, _*_, _≤_, _<_}
@@ -19,11 +19,11 @@ abbrev pub plus : ℕ → Rising → Rising
 plus k r = record { count = k + r .count; last = r .last }
 
 -- of n pointers from a place on i have risen, up to the pointer last
-pub record Going (size : ℕ) (f : List ℕ) (at n i last : ℕ) : Type 0 where
+pub record RisingGoing (size : ℕ) (f : List ℕ) (at n i last : ℕ) : Type 0 where
   pub inside : i ≤ n
   pub whole : rising size f at n 0 ≡ plus i (rising size f (at + size * i) (n - i) last)
 
-pub going-start : {size : ℕ} {f : List ℕ} {at n : ℕ} → Going size f at n 0 0
+pub going-start : {size : ℕ} {f : List ℕ} {at n : ℕ} → RisingGoing size f at n 0 0
 going-start = record { inside = omega arith; whole = rw (mul-zero, add-zero, sub-zero, zero-add) }
 
 none-rises : (size : ℕ) (f : List ℕ) (p m last : ℕ) → rises size f p last ≡ false → rising size f p m last ≡ record { count = 0; last = last }
@@ -40,7 +40,7 @@ beyond true true = refl
 beyond true false = refl
 beyond false b = refl
 
-module _ {size : ℕ} {f : List ℕ} {at n i last : ℕ} (g : Going size f at n i last) where
+module _ {size : ℕ} {f : List ℕ} {at n i last : ℕ} (g : RisingGoing size f at n i last) where
   stops : rising size f (at + size * i) (n - i) last ≡ record { count = 0; last = last } → record { count = i; last = last } ≡ rising size f at n 0
   stops e = sym (g .whole ∙ ap (plus i) e ∙ rw add-zero)
 
@@ -58,7 +58,7 @@ module _ {size : ℕ} {f : List ℕ} {at n i last : ℕ} (g : Going size f at n 
       go zero e = refl
       go (suc m) e = none-rises size f _ (suc m) last (rw (lt-leb _ _ (h (omega (arith, e)))))
 
-  pub going-next : i < n → at + size * i + size ≤ length f → last < numberAt size f (at + size * i) → numberAt size f (at + size * i) < length f → Going size f at n (i + 1) (numberAt size f (at + size * i))
+  pub going-next : i < n → at + size * i + size ≤ length f → last < numberAt size f (at + size * i) → numberAt size f (at + size * i) < length f → RisingGoing size f at n (i + 1) (numberAt size f (at + size * i))
   unfolding rising
   going-next less fits above below = record {
     inside = omega arith;

@@ -1,4 +1,4 @@
--- The stream's loop: `Going` holds at its head, an operation that gives bytes keeps it (`going-given`), and it gives what the
+-- The stream's loop: `StreamGoing` holds at its head, an operation that gives bytes keeps it (`going-given`), and it gives what the
 -- stream gives where the loop ends (`going-short`, `going-over`, `going-done`). What is left of the stream, behind what was
 -- put, is the stream from the start.
 -- Assumes nothing.
@@ -18,7 +18,7 @@ use Rattle.xcf_operation.specs.Parts.{dataSize, given, operationRead, DataInsid
 use Rattle.xcf_stream.proofs.StreamLaws.{sound, stream-done, stream-op}
 use Rattle.xcf_stream.proofs.Scattering.{scatter-append, scatter-length, mul-part}
 
-pub record Going (ws : List ℕ) (from n depth k : ℕ) (start pixels : List ℕ) (pos left to count : ℕ) : Type 0 where
+pub record StreamGoing (ws : List ℕ) (from n depth k : ℕ) (start pixels : List ℕ) (pos left to count : ℕ) : Type 0 where
   pub same : length pixels ≡ length start
   pub room : to + depth * left ≡ k + depth * n
   pub inside : pos ≤ length ws
@@ -28,8 +28,8 @@ pub record Going (ws : List ℕ) (from n depth k : ℕ) (start pixels : List ℕ
   pub operations : count + streamAt ws pos left .operations ≡ streamAt ws from n .operations
   pub put : scatter pixels to depth (streamAt ws pos left .bytes) ≡ scatter start k depth (streamAt ws from n .bytes)
 
-module _ {ws : List ℕ} {from n depth k : ℕ} {start pixels : List ℕ} {pos left to count : ℕ} (g : Going ws from n depth k start pixels pos left to count) where
-  going-more : (bs : List ℕ) (next : ℕ) → 0 < left → operationAt ws pos left ≡ gives bs next → Going ws from n depth k start (scatter pixels to depth bs) next (left - length bs) (to + depth * length bs) (count + 1)
+module _ {ws : List ℕ} {from n depth k : ℕ} {start pixels : List ℕ} {pos left to count : ℕ} (g : StreamGoing ws from n depth k start pixels pos left to count) where
+  going-more : (bs : List ℕ) (next : ℕ) → 0 < left → operationAt ws pos left ≡ gives bs next → StreamGoing ws from n depth k start (scatter pixels to depth bs) next (left - length bs) (to + depth * length bs) (count + 1)
   unfolding streamFrom
   going-more bs next h o =
       let e = stream-op ws pos left h o in
@@ -66,7 +66,7 @@ given-length ws true from count h = length-replicate count (getD ws from 0)
 given-length ws false from count h = simp (length-take, length-drop) (omega arith)
 
 -- an operation that gives bytes, in its window and its stream
-pub record Fits (ws : List ℕ) (at left : ℕ) (run : Bool) (from count next : ℕ) : Type 0 where
+pub record OperationFits (ws : List ℕ) (at left : ℕ) (run : Bool) (from count next : ℕ) : Type 0 where
   pub present : from + dataSize run count ≤ length ws
   pub taken : count ≤ left
   pub after : at < next
@@ -77,17 +77,17 @@ module _ (ws : List ℕ) (at left : ℕ) {r : OperationRead} (e : (operationRead
   found : {o : OperationRead} → r ≡ o → operationAt ws at left ≡ operationRead ws o
   found f = sym (e .0) ∙ ap (operationRead ws) f
 
-  pub fits : {run : Bool} {from count next : ℕ} → r ≡ Given run from count next → Fits ws at left run from count next
+  pub fits : {run : Bool} {from count next : ℕ} → r ≡ Given run from count next → OperationFits ws at left run from count next
   fits {run} {from} {count} {next} f =
       let d = subst (DataInside ws) f (e .1) in
       let s = sound ws at left (found f) in
       record { present = d; taken = omega (arith, s .0, given-length ws run from count d); after = s .1 .0; inside = s .1 .1 }
 
-module _ {ws : List ℕ} {from n depth k : ℕ} {start pixels : List ℕ} {pos left to count : ℕ} (g : Going ws from n depth k start pixels pos left to count) (h : 0 < left) {r : OperationRead} (e : (operationRead ws r ≡ operationAt ws pos left) × DataInside ws r) where
-  pub going-given : {run : Bool} {at size next : ℕ} → r ≡ Given run at size next → Going ws from n depth k start (scatter pixels to depth (given ws run at size)) next (left - size) (to + depth * size) (count + 1)
+module _ {ws : List ℕ} {from n depth k : ℕ} {start pixels : List ℕ} {pos left to count : ℕ} (g : StreamGoing ws from n depth k start pixels pos left to count) (h : 0 < left) {r : OperationRead} (e : (operationRead ws r ≡ operationAt ws pos left) × DataInside ws r) where
+  pub going-given : {run : Bool} {at size next : ℕ} → r ≡ Given run at size next → StreamGoing ws from n depth k start (scatter pixels to depth (given ws run at size)) next (left - size) (to + depth * size) (count + 1)
   going-given {run} {at} {size} {next} f =
       let bs = given ws run at size in
-      subst (λ (m : ℕ). Going ws from n depth k start (scatter pixels to depth bs) next (left - m) (to + depth * m) (count + 1))
+      subst (λ (m : ℕ). StreamGoing ws from n depth k start (scatter pixels to depth bs) next (left - m) (to + depth * m) (count + 1))
       (given-length ws run at size (fits ws pos left e f .present))
       (going-more g bs next h (found ws pos left e f))
 

@@ -22,7 +22,7 @@ scatterAll buf k depth [] = buf
 scatterAll buf k depth (p ∷ ps) = scatterAll (scatter buf k depth p) (k + 1) depth ps
 
 -- room for `count` bytes from `at` on, `step` apart
-pub record Room (buf : List ℕ) (at step count : ℕ) : Type 0 where
+pub record StepRoom (buf : List ℕ) (at step count : ℕ) : Type 0 where
   pub fits : at + step * count < length buf + step
   pub small : length buf + step < wordLimit
 

@@ -14,8 +14,8 @@ pub record Streams : Type 0 where
   pub planes : List (List ℕ)
 
 -- a stream in front: the next begins at the next byte, and none follows a marked one
-abbrev pub before : Stream → Streams → Streams
-before s t =
+abbrev pub inFront : Stream → Streams → Streams
+inFront s t =
     cond (eqb (s .mark) 0)
     (record { mark = t .mark; at = t .at; operations = s .operations + t .operations; planes = s .bytes ∷ t .planes })
     (record { mark = s .mark; at = s .at; operations = s .operations; planes = s .bytes ∷ [] })
@@ -23,4 +23,4 @@ before s t =
 -- `count` streams of n bytes
 unfoldable pub streamsAt : ℕ → List ℕ → ℕ → ℕ → Streams
 streamsAt zero ws at n = record { mark = Mark.good; at = at; operations = 0; planes = [] }
-streamsAt (suc count) ws at n = before (streamAt ws at n) (streamsAt count ws (streamAt ws at n .at) n)
+streamsAt (suc count) ws at n = inFront (streamAt ws at n) (streamsAt count ws (streamAt ws at n .at) n)

@@ -3,11 +3,11 @@ ghost use mathlib.Core.Path.{_≡_};
 ghost use Prim.Native.Nat.{_+_, _*_, _≤_};
 ghost use lib.ListN.{length, replicate, take, drop};
 ghost use Rattle.xcf_operation.specs.Parts.{dataSize, given};
-ghost use Rattle.xcf_stream.specs.Parts.{scatter, Room};
+ghost use Rattle.xcf_stream.specs.Parts.{scatter, StepRoom};
 
 // `value`, `count` times, at `at` and every `step` bytes after it.
 fn fill(pixels: &mut [u8], at: usize, step: usize, count: usize, value: u8) -> usize
-    requires { ⌜ Room (now pixels) at step count ⌝ }
+    requires { ⌜ StepRoom (now pixels) at step count ⌝ }
     ensures { λ r. ⌜ (r ≡ at + step * count) × (now (pixels .exit) ≡ scatter (now (pixels .entry)) at step (replicate count value)) ⌝ }
 {
     let mut to = at;
@@ -29,7 +29,7 @@ fn copy(
     step: usize,
     count: usize,
 ) -> usize
-    requires { ⌜ (from + count ≤ length (now window)) × Room (now pixels) at step count ⌝ }
+    requires { ⌜ (from + count ≤ length (now window)) × StepRoom (now pixels) at step count ⌝ }
     ensures { λ r. ⌜ (r ≡ at + step * count) × (now (pixels .exit) ≡ scatter (now (pixels .entry)) at step (take count (drop from (now (window .entry))))) ⌝ }
 {
     let mut to = at;
@@ -46,7 +46,7 @@ fn copy(
 
 // `fill`, with a loop of its own for each depth of a pixel: the compiler makes a block fill of the first, and unrolls the others.
 fn put_run(pixels: &mut [u8], at: usize, step: usize, count: usize, value: u8) -> usize
-    requires { ⌜ Room (now pixels) at step count ⌝ }
+    requires { ⌜ StepRoom (now pixels) at step count ⌝ }
     ensures { λ r. ⌜ (r ≡ at + step * count) × (now (pixels .exit) ≡ scatter (now (pixels .entry)) at step (replicate count value)) ⌝ }
 {
     if step == 1 {
@@ -73,7 +73,7 @@ fn put_copy(
     step: usize,
     count: usize,
 ) -> usize
-    requires { ⌜ (from + count ≤ length (now window)) × Room (now pixels) at step count ⌝ }
+    requires { ⌜ (from + count ≤ length (now window)) × StepRoom (now pixels) at step count ⌝ }
     ensures { λ r. ⌜ (r ≡ at + step * count) × (now (pixels .exit) ≡ scatter (now (pixels .entry)) at step (take count (drop from (now (window .entry))))) ⌝ }
 {
     if step == 1 {
@@ -101,7 +101,7 @@ pub(crate) fn put_given(
     step: usize,
     count: usize,
 ) -> usize
-    requires { ⌜ (from + dataSize run count ≤ length (now window)) × Room (now pixels) at step count ⌝ }
+    requires { ⌜ (from + dataSize run count ≤ length (now window)) × StepRoom (now pixels) at step count ⌝ }
     ensures { λ r. ⌜ (r ≡ at + step * count) × (now (pixels .exit) ≡ scatter (now (pixels .entry)) at step (given (now (window .entry)) run from count)) ⌝ }
 {
     if run {

@@ -12,7 +12,7 @@ use Rattle.xcf_encode.specs.Tile.{plane, planes, encodeTile}
 use Rattle.xcf_table.specs.declared.canvas.Canvas.{Canvas}
 use Rattle.xcf_table.specs.Canvas.{sideOk, typeOk, depthOf}
 use Rattle.xcf_grid.specs.Pixels.{tabulate, shown}
-use Rattle.xcf_usable.specs.Usable.{before, rowBefore, seenAt, masked, drawableOk, layerOk, layerFollows, channelOk, maskFollows, channelFollows, allZero, usableRow, usable, badFrom, badRow}
+use Rattle.xcf_usable.specs.Usable.{countBefore, rowBefore, seenAt, masked, drawableOk, layerOk, layerFollows, channelOk, maskFollows, channelFollows, allZero, usableRow, usable, badFrom, badRow}
 use Rattle.xcf_store.specs.Word.{wordBytes}
 use Rattle.xcf_structure.specs.Structure.{nameBytes, propertyBytes, drawableProperties, structureBytes, hierarchyBytes, levelBytes}
 use Rattle.xcf_image.specs.Image.{imageProperties, versionOf, kindPlaces, imageBytes}
@@ -27,7 +27,7 @@ abbrev canvas : Canvas
 canvas = record { width = 1; height = 1; base = 1 }
 
 accepted : inputRefusal canvas exampleTable 1 1 ≡ answered Refusal.accepted 0 0
-unfolding rowAt sideOk typeOk depthOf before rowBefore seenAt masked drawableOk layerOk layerFollows channelOk maskFollows channelFollows allZero usableRow usable badFrom badRow usedFrom pixelsSize rowsRefusal inputRefusal
+unfolding rowAt sideOk typeOk depthOf countBefore rowBefore seenAt masked drawableOk layerOk layerFollows channelOk maskFollows channelFollows allZero usableRow usable badFrom badRow usedFrom pixelsSize rowsRefusal inputRefusal
 accepted = refl
 
 file : fileOf canvas exampleTable (115 ∷ []) (255 ∷ []) ≡ exampleFile

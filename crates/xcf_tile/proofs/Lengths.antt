@@ -10,7 +10,7 @@ use lib.ListN.{length, length-append}
 use lib.Dec.{ltb, eqb}
 use Rattle.xcf_operation.specs.Operation.{Operation, gives, short, over, operationAt}
 use Rattle.xcf_stream.specs.Stream.{Stream, streamFrom, streamWithin, streamAt}
-use Rattle.xcf_stream.specs.Streams.{Streams, before, streamsAt}
+use Rattle.xcf_stream.specs.Streams.{Streams, inFront, streamsAt}
 use Rattle.xcf_laws.proofs.Cases.{by-cases}
 use Rattle.xcf_stream.proofs.StreamLaws.{Sound, sound}
 
@@ -44,7 +44,7 @@ pub record WholeTile (count n : ℕ) (s : Streams) : Type 0 where
   pub planes : length (s .planes) ≡ count
   pub each : Each n (s .planes)
 
-before-whole : (count n : ℕ) (s : Stream) (t : Streams) → (s .mark ≡ 0 → length (s .bytes) ≡ n) → (t .mark ≡ 0 → WholeTile count n t) → before s t .mark ≡ 0 → WholeTile (suc count) n (before s t)
+before-whole : (count n : ℕ) (s : Stream) (t : Streams) → (s .mark ≡ 0 → length (s .bytes) ≡ n) → (t .mark ≡ 0 → WholeTile count n t) → inFront s t .mark ≡ 0 → WholeTile (suc count) n (inFront s t)
 before-whole count n s t f g =
     by-cases (λ (u : Streams). u .mark ≡ 0 → WholeTile (suc count) n u) (eqb (s .mark) 0) _ _
     (λ e z. record { planes = ap suc (g z .planes); each = (f (eqb-true _ _ e), g z .each) })

@@ -7,14 +7,14 @@ use Rattle.xcf_stream.specs.declared.StreamEnd.{StreamEnd}
 use Rattle.xcf_tile.specs.Tile.{Tile}
 
 -- r and the pixels are those of the tile t
-pub record Gives (t : Tile) (r : StreamEnd) (new : List ℕ) : Type 0 where
+pub record TileGiven (t : Tile) (r : StreamEnd) (new : List ℕ) : Type 0 where
   pub mark : r .mark ≡ t .mark
   pub consumed : r .at ≡ t .consumed
   pub operations : r .operations ≡ t .operations
   pub pixels : new ≡ t .pixels
 
 -- sizes that are not refused
-pub record Usable (w h depth compression len : ℕ) : Type 0 where
+pub record UsableTile (w h depth compression len : ℕ) : Type 0 where
   pub wide : w ≤ tileSide
   pub high : h ≤ tileSide
   pub deep : depth ≤ depthLimit

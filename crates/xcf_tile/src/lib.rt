@@ -5,7 +5,7 @@ ghost use Rattle.xcf_numbers.specs.Limit.{windowLimit};
 ghost use Rattle.xcf_tile.specs.Tile.{plainTile, encodedTile, tileIn};
 ghost use Rattle.xcf_tile.specs.Answer.{usableTile, decodeRefusal, Decoded};
 ghost use Rattle.xcf_stream.specs.Parts.{Sized};
-ghost use Rattle.xcf_tile.specs.Parts.{Gives, Usable};
+ghost use Rattle.xcf_tile.specs.Parts.{TileGiven, UsableTile};
 use xcf_numbers::limit::DEPTH_LIMIT;
 use xcf_numbers::limit::TILE_SIDE;
 use xcf_numbers::limit::WINDOW_LIMIT;
@@ -28,7 +28,7 @@ pub struct TileAnswer {
 
 fn decode_encoded(window: &[u8], n: usize, depth: usize, pixels: &mut [u8]) -> StreamEnd
     requires { ⌜ Sized n depth (now pixels) ⌝ }
-    ensures { λ r. ⌜ Gives (encodedTile (now (window .entry)) n depth) r (now (pixels .exit)) ⌝ }
+    ensures { λ r. ⌜ TileGiven (encodedTile (now (window .entry)) n depth) r (now (pixels .exit)) ⌝ }
 {
     let end = streams(window, n, depth, pixels);
     if 0 < end.mark {
@@ -39,7 +39,7 @@ fn decode_encoded(window: &[u8], n: usize, depth: usize, pixels: &mut [u8]) -> S
 
 fn decode_plain(window: &[u8], n: usize, depth: usize, pixels: &mut [u8]) -> StreamEnd
     requires { ⌜ Sized n depth (now pixels) ⌝ }
-    ensures { λ r. ⌜ Gives (plainTile (now (window .entry)) n depth) r (now (pixels .exit)) ⌝ }
+    ensures { λ r. ⌜ TileGiven (plainTile (now (window .entry)) n depth) r (now (pixels .exit)) ⌝ }
 {
     let size = pixels.len();
     if window.len() < size {
@@ -52,7 +52,7 @@ fn decode_plain(window: &[u8], n: usize, depth: usize, pixels: &mut [u8]) -> Str
 
 fn decode(window: &[u8], n: usize, depth: usize, compression: u32, pixels: &mut [u8]) -> StreamEnd
     requires { ⌜ Sized n depth (now pixels) ⌝ }
-    ensures { λ r. ⌜ Gives (tileIn (now (window .entry)) n depth compression) r (now (pixels .exit)) ⌝ }
+    ensures { λ r. ⌜ TileGiven (tileIn (now (window .entry)) n depth compression) r (now (pixels .exit)) ⌝ }
 {
     if compression == 0 {
         decode_plain(window, n, depth, pixels)
@@ -79,7 +79,7 @@ pub fn usable_tile(width: u32, height: u32, depth: u32) -> bool
 
 // 14, 11, or 0 where the call is not refused.
 fn refusal(width: u32, height: u32, depth: u32, compression: u32, length: usize) -> u64
-    ensures { λ r. ⌜ (r ≡ decodeRefusal width height depth compression length) × (r ≡ 0 → Usable width height depth compression length) ⌝ }
+    ensures { λ r. ⌜ (r ≡ decodeRefusal width height depth compression length) × (r ≡ 0 → UsableTile width height depth compression length) ⌝ }
 {
     if usable_tile(width, height, depth) {
         if 1 < compression {

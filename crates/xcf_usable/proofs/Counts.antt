@@ -10,11 +10,11 @@ use native.Mathlib.Omega.{arith}
 use Rattle.xcf_table.specs.declared.Row.{Row}
 use Rattle.xcf_table.specs.Table.{rowAt}
 use Rattle.xcf_usable.specs.declared.seen.Seen.{Seen}
-use Rattle.xcf_usable.specs.Usable.{isLayer, isChannel, isUnused, isActiveLayer, isActiveChannel, isSelection, before, rowBefore, seenAt}
+use Rattle.xcf_usable.specs.Usable.{isLayer, isChannel, isUnused, isActiveLayer, isActiveChannel, isSelection, countBefore, rowBefore, seenAt}
 
 pub before-next : (test : Row → Bool) (table : List ℕ) (k : ℕ)
-    → before test table (k + 1) ≡ before test table k + cond (test (rowAt table k)) 1 0
-unfolding before
+    → countBefore test table (k + 1) ≡ countBefore test table k + cond (test (rowAt table k)) 1 0
+unfolding countBefore
 before-next test table k = rw add-one
 
 -- what is seen behind a row
@@ -23,27 +23,27 @@ seeing s r = record {
   layers = s .layers + cond (isLayer r) 1 0;
   channels = s .channels + cond (isChannel r) 1 0;
   unused = s .unused + cond (isUnused r) 1 0;
-  chosen = s .chosen + cond (isActiveLayer r) 1 0;
+  current = s .current + cond (isActiveLayer r) 1 0;
   active = s .active + cond (isActiveChannel r) 1 0;
   selections = s .selections + cond (isSelection r) 1 0;
   row = r;
 }
 
 pub seen-next : (table : List ℕ) (k : ℕ) → seenAt table (k + 1) ≡ seeing (seenAt table k) (rowAt table k)
-unfolding seenAt before rowBefore
+unfolding seenAt countBefore rowBefore
 seen-next table k = rw add-one
 
 pub one-most : (b : Bool) → cond b 1 0 ≤ 1
 one-most true = omega arith
 one-most false = omega arith
 
-pub before-most : (test : Row → Bool) (table : List ℕ) (k : ℕ) → before test table k ≤ k
-unfolding before
+pub before-most : (test : Row → Bool) (table : List ℕ) (k : ℕ) → countBefore test table k ≤ k
+unfolding countBefore
 before-most test table zero = omega arith
 before-most test table (suc k) = omega (arith, before-most test table k, one-most (test (rowAt table k)))
 
 -- a row that passes is counted behind it
-pub counted : (test : Row → Bool) (table : List ℕ) (k : ℕ) → test (rowAt table k) ≡ true → 1 ≤ before test table (k + 1)
+pub counted : (test : Row → Bool) (table : List ℕ) (k : ℕ) → test (rowAt table k) ≡ true → 1 ≤ countBefore test table (k + 1)
 counted test table k e = rw (before-next, e) (omega arith)
 
 one-more : (b : Bool) {n m : ℕ} → n ≤ m → (b ≡ true → n < m) → n + cond b 1 0 ≤ m
@@ -52,8 +52,8 @@ one-more false low below = omega arith
 
 -- where fewer than m rows come before each row that passes, m pass at most
 pub few-pass : (test : Row → Bool) (table : List ℕ) (m n : ℕ)
-    → ((k : ℕ) → k < n → test (rowAt table k) ≡ true → before test table k < m) → before test table n ≤ m
-unfolding before
+    → ((k : ℕ) → k < n → test (rowAt table k) ≡ true → countBefore test table k < m) → countBefore test table n ≤ m
+unfolding countBefore
 few-pass test table m zero few = omega arith
 few-pass test table m (suc n) few =
     one-more (test (rowAt table n)) (few-pass test table m n (λ k h. few k (omega arith))) (few n (omega arith))
@@ -63,7 +63,7 @@ pub record CountsMost (s : Seen) (n : ℕ) : Type 0 where
   pub layers : s .layers ≤ n
   pub channels : s .channels ≤ n
   pub unused : s .unused ≤ n
-  pub chosen : s .chosen ≤ n
+  pub current : s .current ≤ n
   pub active : s .active ≤ n
   pub selections : s .selections ≤ n
 
@@ -73,7 +73,7 @@ seen-most table k = record {
   layers = before-most isLayer table k;
   channels = before-most isChannel table k;
   unused = before-most isUnused table k;
-  chosen = before-most isActiveLayer table k;
+  current = before-most isActiveLayer table k;
   active = before-most isActiveChannel table k;
   selections = before-most isSelection table k;
 }

@@ -13,7 +13,7 @@ use Rattle.xcf_numbers.specs.Limit.{layerLimit, channelLimit, tableRows}
 use Rattle.xcf_numbers.specs.Kind
 use Rattle.xcf_table.specs.Table.{rowAt}
 use Rattle.xcf_table.specs.declared.canvas.Canvas.{Canvas}
-use Rattle.xcf_usable.specs.Usable.{isLayer, isChannel, isUnused, before, rowBefore, seenAt, masked, usable}
+use Rattle.xcf_usable.specs.Usable.{isLayer, isChannel, isUnused, countBefore, rowBefore, seenAt, masked, usable}
 use Rattle.xcf_usable.proofs.Counts.{counted, few-pass}
 use Rattle.xcf_usable.proofs.RowFacts.{MaskFacts, BeforeLayer, Use, unused, layer, mask, channel, row-use, layer-before, mask-facts, channel-before}
 
@@ -38,7 +38,7 @@ module _ (c : Canvas) (names : ℕ) (table : List ℕ) (all : (k : ℕ) → k < 
   unfolding seenAt
   channel-stays k b three = omega (arith, counted isChannel table k (eq-eqb _ _ three), b .channels)
 
-  unused-stays : (k : ℕ) → before isUnused table (k + 1) ≡ 0 → rowAt table k .kind ≡ Kind.unused → ⊥
+  unused-stays : (k : ℕ) → countBefore isUnused table (k + 1) ≡ 0 → rowAt table k .kind ≡ Kind.unused → ⊥
   unused-stays k none zero = omega (arith, counted isUnused table k (eq-eqb _ _ zero))
 
   pub after-channel : (k : ℕ) → k + 1 < tableRows → rowAt table k .kind ≡ Kind.channel
@@ -62,10 +62,10 @@ module _ (c : Canvas) (names : ℕ) (table : List ℕ) (all : (k : ℕ) → k < 
       go (mask d ch m) = absurd (omega (arith, mask-after-layer k h (m .kind)))
       go (channel d ch v b) = absurd (unused-stays k (b .unused) zero)
 
-  pub few-layers : (n : ℕ) → n ≤ tableRows → before isLayer table n ≤ layerLimit
+  pub few-layers : (n : ℕ) → n ≤ tableRows → countBefore isLayer table n ≤ layerLimit
   unfolding seenAt
   few-layers n h = few-pass isLayer table layerLimit n λ k low e. layer-before c names table k (all k (omega arith)) (eqb-true _ _ e) .few
 
-  pub few-channels : (n : ℕ) → n ≤ tableRows → before isChannel table n ≤ channelLimit
+  pub few-channels : (n : ℕ) → n ≤ tableRows → countBefore isChannel table n ≤ channelLimit
   unfolding seenAt
   few-channels n h = few-pass isChannel table channelLimit n λ k low e. channel-before c names table k (all k (omega arith)) (eqb-true _ _ e) .few

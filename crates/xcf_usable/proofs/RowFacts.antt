@@ -141,7 +141,7 @@ layer-says c k r hasMask kind e =
 before-layer-says : (s : Seen) (r : Row) → layerFollows s r ≡ true → BeforeLayer s
 unfolding layerFollows
 before-layer-says s r e =
-    let t = each (ltb (s .layers) layerLimit ∷ eqb (s .channels) 0 ∷ eqb (s .unused) 0 ∷ noSecond (isActiveLayer r) (s .chosen) ∷ []) e in
+    let t = each (ltb (s .layers) layerLimit ∷ eqb (s .channels) 0 ∷ eqb (s .unused) 0 ∷ noSecond (isActiveLayer r) (s .current) ∷ []) e in
     record { few = ltb-true _ _ (t 0); channels = eqb-true _ _ (t 1); unused = eqb-true _ _ (t 2) }
 
 channel-says : (s : Seen) (r : Row) → channelOk s r ≡ true → ChannelFacts r

@@ -58,9 +58,9 @@ abbrev pub isSelection : Row → Bool
 isSelection r = not (isLayer r) && flagSet (r .flags) Flag.selection
 
 -- how many of the rows before row k pass a test
-unfoldable pub before : (Row → Bool) → List ℕ → ℕ → ℕ
-before test table zero = 0
-before test table (suc k) = before test table k + cond (test (rowAt table k)) 1 0
+unfoldable pub countBefore : (Row → Bool) → List ℕ → ℕ → ℕ
+countBefore test table zero = 0
+countBefore test table (suc k) = countBefore test table k + cond (test (rowAt table k)) 1 0
 
 -- the row before row k
 unfoldable pub rowBefore : List ℕ → ℕ → Row
@@ -70,12 +70,12 @@ rowBefore table (suc k) = rowAt table k
 -- what the rows before row k are
 unfoldable pub seenAt : List ℕ → ℕ → Seen
 seenAt table k = record {
-  layers = before isLayer table k;
-  channels = before isChannel table k;
-  unused = before isUnused table k;
-  chosen = before isActiveLayer table k;
-  active = before isActiveChannel table k;
-  selections = before isSelection table k;
+  layers = countBefore isLayer table k;
+  channels = countBefore isChannel table k;
+  unused = countBefore isUnused table k;
+  current = countBefore isActiveLayer table k;
+  active = countBefore isActiveChannel table k;
+  selections = countBefore isSelection table k;
   row = rowBefore table k;
 }
 
@@ -105,7 +105,7 @@ layerOk c k r hasMask =
 
 -- at most 48 layers, all before the channels and the unused rows, at most one of them active
 unfoldable pub layerFollows : Seen → Row → Bool
-layerFollows s r = ltb (s .layers) layerLimit && (eqb (s .channels) 0 && (eqb (s .unused) 0 && noSecond (isActiveLayer r) (s .chosen)))
+layerFollows s r = ltb (s .layers) layerLimit && (eqb (s .channels) 0 && (eqb (s .unused) 0 && noSecond (isActiveLayer r) (s .current)))
 
 -- a mask's or channel's numbers; at most one of them is active, and at most one the selection
 unfoldable pub channelOk : Seen → Row → Bool

@@ -73,7 +73,7 @@ pub(crate) fn layer_follows(seen: Seen, row: Row) -> bool
 {
     (seen.layers < LAYER_LIMIT)
         & ((seen.channels == 0)
-            & ((seen.unused == 0) & (!is_active_layer(row) | (seen.chosen == 0))))
+            & ((seen.unused == 0) & (!is_active_layer(row) | (seen.current == 0))))
 }
 
 pub(crate) fn channel_ok(seen: Seen, row: Row) -> bool

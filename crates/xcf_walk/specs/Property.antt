@@ -10,7 +10,7 @@ use Rattle.xcf_walk.specs.declared.property.Property.{Property}
 use Rattle.xcf_property.specs.declared.Properties.{Properties}
 use Rattle.xcf_walk.specs.Walk.{Walk, done, bytes, here, must, Turn, more, last, loop, _>>=_, _>>_}
 use Rattle.xcf_walk.specs.Fields.{word}
-use Rattle.xcf_property.specs.Property.{lengthOk, contentOf, isColourMap, isFloating, lacksMap, allowed, absent, put}
+use Rattle.xcf_property.specs.Property.{lengthOk, contentOf, isColourMap, isFloating, lacksMap, allowed, defaults, put}
 
 -- a payload whose length its type allows
 unfoldable pub payload : ℕ → ℕ → ℕ → Walk Content
@@ -54,4 +54,4 @@ propertyTurn list p = do
   done (cond (eqb (x .kind) PropertyType.end) (last (put list (x .kind) (x .content) p)) (more (put list (x .kind) (x .content) p)))
 
 unfoldable pub properties : ℕ → ℕ → Walk Properties
-properties list unmapped = loop (propertyTurn list) (absent list unmapped)
+properties list unmapped = loop (propertyTurn list) (defaults list unmapped)

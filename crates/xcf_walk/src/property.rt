@@ -178,7 +178,7 @@ impl Cursor {
         ensures { λ r. ⌜ Reads self (properties list unmapped) (now (file .entry)) noProperties (r .cursor) (r .properties) ⌝ }
     {
         let mut cursor = self;
-        let mut p = Properties::absent(list, unmapped);
+        let mut p = Properties::defaults(list, unmapped);
         let mut again = true;
         while again {
             let turn = cursor.property_turn(file, list, p);

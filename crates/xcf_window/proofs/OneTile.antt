@@ -52,18 +52,18 @@ mark-small size f r compression t =
 
 module _ {size : ℕ} {f : List ℕ} {r : Row} {compression t : ℕ} {s : Frame} (ready : Ready size f r compression) (below : t < r .count) (frame : s ≡ frameOf r t) where
   width-in-range : (1 ≤ s .width) × (s .width ≤ 64)
-  width-in-range = rw frame (tile-width (r .width) t (ready .usable .wide .0))
+  width-in-range = rw frame (tile-width (r .width) t (ready .range .wide .0))
 
   height-in-range : (1 ≤ s .height) × (s .height ≤ 64)
-  height-in-range = rw frame (tile-height (r .width) (r .height) t (ready .usable .wide .0) (rw (ready .usable .count) at below))
+  height-in-range = rw frame (tile-height (r .width) (r .height) t (ready .range .wide .0) (rw (ready .range .count) at below))
 
   pub pixels-small : (s .width * s .height ≤ streamLimit) × (s .width * s .height * r .depth ≤ tileSize)
-  pixels-small = small (width-in-range .1) (height-in-range .1) (ready .usable .deep .1)
+  pixels-small = small (width-in-range .1) (height-in-range .1) (ready .range .deep .1)
 
   tile-not-refused : {len : ℕ} → len ≡ s .width * s .height * r .depth → decodeRefusal (s .width) (s .height) (r .depth) compression len ≡ 0
   unfolding usableTile decodeRefusal
   tile-not-refused {len} exact =
-      rw (bounds-within 1 tileSide (s .width) width-in-range, bounds-within 1 tileSide (s .height) height-in-range, bounds-within 1 depthLimit (r .depth) (ready .usable .deep), le-leb compression 1 (ready .usable .way), eq-eqb len (s .width * s .height * r .depth) exact)
+      rw (bounds-within 1 tileSide (s .width) width-in-range, bounds-within 1 tileSide (s .height) height-in-range, bounds-within 1 depthLimit (r .depth) (ready .range .deep), le-leb compression 1 (ready .way), eq-eqb len (s .width * s .height * r .depth) exact)
 
   -- the window that the decoder is lent is not cut yet
   same-tile : {start end : ℕ} → start ≡ pointerAt size f r t → end ≡ windowEnd size f r t

@@ -3,26 +3,18 @@ use Prim.Native.Nat.{ℕ, _≤_}
 use mathlib.Core.Path.{_≡_}
 use mathlib.Core.List.{List, _++_}
 use lib.ListN.{length, drop}
-use Rattle.xcf_numbers.specs.Limit.{sideLimit, depthLimit}
 use Rattle.xcf_walk.specs.Walk.{got, run}
 use Rattle.xcf_table.specs.declared.Row.{Row}
-use Rattle.xcf_grid.specs.Grid.{tileCount}
+use Rattle.xcf_grid.specs.Drawn.{InRange}
 use Rattle.xcf_tile.specs.Tile.{Tile}
 use Rattle.xcf_parse.specs.Hierarchy.{tiles}
 use Rattle.xcf_store.specs.Pointer.{PointerSize}
 
--- a row whose numbers are in range
-pub record Usable (r : Row) (compression : ℕ) : Type 0 where
-  pub wide : (1 ≤ r .width) × (r .width ≤ sideLimit)
-  pub high : (1 ≤ r .height) × (r .height ≤ sideLimit)
-  pub deep : (1 ≤ r .depth) × (r .depth ≤ depthLimit)
-  pub count : r .count ≡ tileCount (r .width) (r .height)
-  pub way : compression ≤ 1
-
--- and whose tile pointers, of `size` bytes, are right in the file f
+-- a row in range, whose tile pointers, of `size` bytes, are right in the file f
 pub record Ready (size : ℕ) (f : List ℕ) (r : Row) (compression : ℕ) : Type 0 where
   pub sized : PointerSize size
-  pub usable : Usable r compression
+  pub range : InRange r
+  pub way : compression ≤ 1
   pub end : ℕ
   pub pointers : got tt end ≡ run (tiles size (r .count) 0) f (r .tiles)
 

@@ -20,8 +20,8 @@ inRange r =
 unfoldable pub inFile : ℕ → ℕ → Row → Bool
 inFile size fileLength r = eqb (r .count) (tileCount (r .width) (r .height)) && leb (r .tiles + size * (r .count + 1)) fileLength
 
-unfoldable pub usableRow : ℕ → ℕ → Row → ℕ → Bool
-usableRow size fileLength r compression = pointerSizeOk size && (inRange r && (inFile size fileLength r && leb compression 1))
+unfoldable pub decodableRow : ℕ → ℕ → Row → ℕ → Bool
+decodableRow size fileLength r compression = pointerSizeOk size && (inRange r && (inFile size fileLength r && leb compression 1))
 
 -- whether pixels and marks of these lengths fit a row
 unfoldable pub fits : Row → ℕ → ℕ → Bool
@@ -32,6 +32,6 @@ unfoldable pub rowRefusal : ℕ → ℕ → ℕ → Row → ℕ → ℕ
 rowRefusal size fileLength tableLength r compression =
     cond (eqb tableLength tableSize)
     (cond (leb fileLength fileLimit)
-    (cond (usableRow size fileLength r compression) Refusal.accepted Refusal.unusable)
+    (cond (decodableRow size fileLength r compression) Refusal.accepted Refusal.unusable)
     Refusal.tooLong)
     Refusal.wrongBuffer

@@ -4,7 +4,7 @@ ghost use Prim.Native.Nat.{_≤_};
 ghost use lib.ListN.{length};
 ghost use Rattle.xcf_numbers.specs.Limit.{sideLimit, depthLimit};
 ghost use Rattle.xcf_store.specs.Pointer.{PointerSize};
-ghost use Rattle.xcf_window.specs.Usable.{inRange, inFile, usableRow, fits, rowRefusal};
+ghost use Rattle.xcf_window.specs.Usable.{inRange, inFile, decodableRow, fits, rowRefusal};
 use xcf_grid::tile_count;
 use xcf_numbers::kind;
 use xcf_numbers::limit::DEPTH_LIMIT;
@@ -47,7 +47,7 @@ fn in_file(length: usize, row: Row, size: usize) -> bool
 }
 
 fn usable(length: usize, row: Row, compression: u32, size: usize) -> bool
-    ensures { λ r. ⌜ r ≡ usableRow size length row compression ⌝ }
+    ensures { λ r. ⌜ r ≡ decodableRow size length row compression ⌝ }
 {
     if size != POINTER_SIZE {
         return false;

@@ -18,7 +18,7 @@ use Rattle.xcf_usable.specs.Usable.{isUnused, badRow}
 use Rattle.xcf_usable.proofs.AllUsable.{all-usable}
 use Rattle.xcf_usable.proofs.RowFacts.{DrawableFacts, drawable-facts}
 use Rattle.xcf_body.specs.Rows.{usedFrom, pixelsSize, usedRows}
-use Rattle.xcf_body.specs.Parts.{RowsInRange, Ready}
+use Rattle.xcf_body.specs.Parts.{RowsInRange, RowsReady}
 
 module _ (table : List ℕ) where
   most-from : (n j : ℕ) → usedFrom table n j ≤ n
@@ -58,13 +58,14 @@ module _ (c : Canvas) (names : ℕ) (table : List ℕ) (good : badRow c names ta
   pub used-range : RowsInRange table (usedRows table)
   used-range k h =
       let d = used-facts k h in
-      record { wide = d .wide; high = d .high; deep = d .deep; count = d .count; short = d .short }
+      record { wide = d .wide; high = d .high; deep = d .deep; count = d .count }
 
 pub ready : (c : Canvas) (table names pixels : List ℕ) → badRow c (length names) table ≡ tableRows
-    → length pixels ≡ pixelsSize table (usedRows table) 0 → Ready table names pixels (usedRows table)
+    → length pixels ≡ pixelsSize table (usedRows table) 0 → RowsReady table names pixels (usedRows table)
 ready c table names pixels good whole = record {
   few = used-most table;
   range = used-range c (length names) table good;
   named = λ k h. used-facts c (length names) table good k h .named;
+  short = λ k h. used-facts c (length names) table good k h .short;
   whole = whole;
 }

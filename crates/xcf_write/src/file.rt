@@ -6,7 +6,7 @@ ghost use Rattle.xcf_numbers.specs.Limit.{fileLimit, placesSize};
 ghost use Rattle.xcf_store.specs.Put.{Put};
 ghost use Rattle.xcf_write.specs.File.{imageSize, fileBytes};
 ghost use Rattle.xcf_body.specs.Rows.{drawablesFrom, usedRows};
-ghost use Rattle.xcf_body.specs.Parts.{Ready, endOf, Placed};
+ghost use Rattle.xcf_body.specs.Parts.{RowsReady, endOf, Placed};
 ghost use Rattle.xcf_write.specs.Parts.{Fitted};
 use crate::WriteAnswer;
 use crate::answered;
@@ -31,7 +31,7 @@ fn put_file(
     pixels: &[u8],
     places: &[usize],
 ) -> usize
-    requires { ⌜ Ready (now table) (now names) (now pixels) n × (length (now places) ≡ placesSize) ⌝ }
+    requires { ⌜ RowsReady (now table) (now names) (now pixels) n × (length (now places) ≡ placesSize) ⌝ }
     requires { ⌜ Placed (now places) 0 (drawablesFrom (now table) n 0 (now names) (now pixels)) start × (start ≡ imageSize canvas (drawablesFrom (now table) n 0 (now names) (now pixels))) ⌝ }
     requires { ⌜ (endOf (drawablesFrom (now table) n 0 (now names) (now pixels)) start ≤ length (now output)) × (endOf (drawablesFrom (now table) n 0 (now names) (now pixels)) start ≤ fileLimit) ⌝ }
     ensures { λ r. ⌜ Put (now (output .entry)) 0 (fileBytes canvas (drawablesFrom (now (table .entry)) n 0 (now (names .entry)) (now (pixels .entry)))) r (now (output .exit)) ⌝ }
@@ -50,7 +50,7 @@ fn write_within(
     places: &mut [usize],
     output: &mut [u8],
 ) -> WriteAnswer
-    requires { ⌜ Ready (now table) (now names) (now pixels) n × (n ≡ usedRows (now table)) ⌝ }
+    requires { ⌜ RowsReady (now table) (now names) (now pixels) n × (n ≡ usedRows (now table)) ⌝ }
     requires { ⌜ length (now places) ≡ placesSize ⌝ }
     ensures { λ r. ⌜ Fitted canvas (now (table .entry)) (now (names .entry)) (now (pixels .entry)) (now (output .entry)) r (now (output .exit)) ⌝ }
 {
@@ -71,7 +71,7 @@ pub(crate) fn write_file(
     pixels: &[u8],
     output: &mut [u8],
 ) -> WriteAnswer
-    requires { ⌜ Ready (now table) (now names) (now pixels) (usedRows (now table)) ⌝ }
+    requires { ⌜ RowsReady (now table) (now names) (now pixels) (usedRows (now table)) ⌝ }
     ensures { λ r. ⌜ Fitted canvas (now (table .entry)) (now (names .entry)) (now (pixels .entry)) (now (output .entry)) r (now (output .exit)) ⌝ }
 {
     let mut places = [0usize; PLACES_SIZE];

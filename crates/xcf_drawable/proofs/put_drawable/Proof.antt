@@ -41,7 +41,7 @@ put-structure-requires c κs =
     let start = begin (c .before) in
     let a = start .args in
     let w = start .pre .0 in
-    (omega (arith, w .named, w .drawn .range .short), structure-room (a .row) (a .masked) (a .name .now) (a .pixels .now) (start .pre .1 .0) _ _)
+    (omega (arith, w .named, w .short), structure-room (a .row) (a .masked) (a .name .now) (a .pixels .now) (start .pre .1 .0) _ _)
 
 cast-t14 : tie.Need-cast-t14
 cast-t14 c = search needs

@@ -1,4 +1,4 @@
--- `stream` meets its contract: `Going` holds at the loop's head, and each operation keeps it or ends the stream.
+-- `stream` meets its contract: `StreamGoing` holds at the loop's head, and each operation keeps it or ends the stream.
 use Prim.Native.Nat.{_-_}
 use borrow.Author.Needs.{needs}
 use native.Mathlib.Omega.{arith}
@@ -6,10 +6,10 @@ use lib.ListN.{length}
 use Rattle.xcf_stream.proofs.stream.Statement.{statement}
 use Rattle.xcf_stream.proofs.stream.Tie as tie
 use Rattle.xcf_stream.proofs.Scattering.{mul-part}
-use Rattle.xcf_stream.proofs.StreamLoop.{Going, Fits, fits, going-given, going-short, going-over, going-done}
+use Rattle.xcf_stream.proofs.StreamLoop.{StreamGoing, OperationFits, fits, going-given, going-short, going-over, going-done}
 
 abbrev Inv-loop : tie.InvT-loop
-Inv-loop window from n depth k pixels₀ at₀ left₀ to₀ operations₀ pixels at left to operations = Going window from n depth k pixels₀ pixels at left to operations
+Inv-loop window from n depth k pixels₀ at₀ left₀ to₀ operations₀ pixels at left to operations = StreamGoing window from n depth k pixels₀ pixels at left to operations
 
 abbrev μ-loop : tie.MeasureT-loop
 μ-loop window from n depth k pixels₀ at₀ left₀ to₀ operations₀ pixels at left to operations = length window - at
@@ -29,7 +29,7 @@ put c = c .before .before .before .before .before
 
 -- the operation that gives bytes
 fitting : (c : tie.After-run Inv-loop μ-loop)
-    → Fits (begin (head (read c)) .args .window .now) (head (read c) .loop .at) (head (read c) .loop .left)
+    → OperationFits (begin (head (read c)) .args .window .now) (head (read c) .loop .at) (head (read c) .loop .left)
     (c .run .given .0 .0) (c .run .given .0 .1 .0) (c .run .given .0 .1 .1 .0) (c .run .given .0 .1 .1 .1 .0)
 fitting c = fits _ _ _ (read c .operation-at .ensures) (c .run .given .1)
 

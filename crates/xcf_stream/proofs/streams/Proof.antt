@@ -1,14 +1,14 @@
--- `streams` meets its contract: `Going` holds at the loop's head, and each stream keeps it or ends the tile.
+-- `streams` meets its contract: `StreamsGoing` holds at the loop's head, and each stream keeps it or ends the tile.
 use mathlib.Core.Path.{_≡_}
 use Prim.Native.Nat.{_-_}
 use borrow.Author.Needs.{needs}
 use native.Mathlib.Omega.{arith}
 use Rattle.xcf_stream.proofs.streams.Statement.{statement}
 use Rattle.xcf_stream.proofs.streams.Tie as tie
-use Rattle.xcf_stream.proofs.StreamsLoop.{Going, going-start, going-on, going-off, all-done}
+use Rattle.xcf_stream.proofs.StreamsLoop.{StreamsGoing, going-start, going-on, going-off, all-done}
 
 abbrev Inv-loop : tie.InvT-loop
-Inv-loop window n depth pixels₀ k₀ at₀ operations₀ pixels k at operations = Going window n depth pixels₀ pixels k at operations
+Inv-loop window n depth pixels₀ k₀ at₀ operations₀ pixels k at operations = StreamsGoing window n depth pixels₀ pixels k at operations
 
 abbrev μ-loop : tie.MeasureT-loop
 μ-loop window n depth pixels₀ k₀ at₀ operations₀ pixels k at operations = depth - k

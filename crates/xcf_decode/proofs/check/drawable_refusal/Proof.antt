@@ -1,10 +1,11 @@
 -- `drawable_refusal` meets its contract: its tests are the definition's, in its order.
+use Prim.Native.Nat.{_≤_}
 use mathlib.Core.Path.{_≡_, sym, _∙_}
 use borrow.Author.Needs.{needs}
 use borrow.Author.Tests.{ne-eqb}
 use lib.ListN.{length}
 use Rattle.xcf_store.specs.Pointer.{PointerSize}
-use Rattle.xcf_window.specs.Parts.{Usable}
+use Rattle.xcf_grid.specs.Drawn.{InRange}
 use Rattle.xcf_window.specs.Usable.{rowRefusal}
 use Rattle.xcf_decode.specs.Answer.{drawableRefusal}
 use Rattle.xcf_decode.proofs.Usable.{row-usable}
@@ -15,7 +16,7 @@ use Rattle.xcf_decode.proofs.check.drawable_refusal.Tie as tie
 good : (c : tie.Else1) → let a = c .before .before .before .args in rowRefusal (a .size) (length (a .file .now)) (a .numbers) (a .row) (a .compression) ≡ 0
 good c = sym (c .before .row-refusal .ensures) ∙ c .if1 .left
 
-usable : (c : tie.Else1) → let a = c .before .before .before .args in PointerSize (a .size) × Usable (a .row) (a .compression)
+usable : (c : tie.Else1) → let a = c .before .before .before .args in PointerSize (a .size) × InRange (a .row) × (a .compression ≤ 1)
 usable c = let a = c .before .before .before .args in row-usable (a .size) (length (a .file .now)) (a .numbers) (a .row) (a .compression) (good c)
 
 row-refusal-requires : tie.Need-row-refusal-requires

@@ -1,14 +1,14 @@
--- `decode_tiles` meets its contract: `Going` holds at the loop's head, and each tile keeps it.
+-- `decode_tiles` meets its contract: `TilesGoing` holds at the loop's head, and each tile keeps it.
 use Prim.Native.Nat.{_-_, _≤_, _<_}
 use mathlib.Core.Path.{sym, _∙_}
 use mathlib.Core.Logic.{⊎-elim}
 use native.Mathlib.Omega.{arith}
-use Rattle.xcf_decode.proofs.TilesLoop.{Going, going-start, counting-few, counting-good, counting-bad, tile-placeable, going-next, going-counted, going-shown, going-marked}
+use Rattle.xcf_decode.proofs.TilesLoop.{TilesGoing, going-start, counting-few, counting-good, counting-bad, tile-placeable, going-next, going-counted, going-shown, going-marked}
 use Rattle.xcf_decode.proofs.drawable.decode_tiles.Statement.{statement}
 use Rattle.xcf_decode.proofs.drawable.decode_tiles.Tie as tie
 
 abbrev Inv-loop : tie.InvT-loop
-Inv-loop file row compression size pixels₀ marks₀ scratch₀ t₀ marked₀ pixels marks scratch t marked = Going size file row compression pixels marks scratch t marked
+Inv-loop file row compression size pixels₀ marks₀ scratch₀ t₀ marked₀ pixels marks scratch t marked = TilesGoing size file row compression pixels marks scratch t marked
 
 abbrev μ-loop : tie.MeasureT-loop
 μ-loop file row compression size pixels₀ marks₀ scratch₀ t₀ marked₀ pixels marks scratch t marked = row .count - t
@@ -34,7 +34,7 @@ loop-holds : tie.Need-loop-holds Inv-loop μ-loop
 loop-holds c = let pre = c .before .before .before .before .pre in going-start (pre .1 .0) (pre .1 .1) (pre .1 .2)
 
 frame-of-requires : tie.Need-frame-of-requires Inv-loop μ-loop
-frame-of-requires c κs = begin (head c) .pre .0 .usable .wide
+frame-of-requires c κs = begin (head c) .pre .0 .range .wide
 
 decode-one-requires : tie.Need-decode-one-requires Inv-loop μ-loop
 decode-one-requires c κs =

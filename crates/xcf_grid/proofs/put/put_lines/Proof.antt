@@ -1,13 +1,13 @@
--- `put_lines` meets its contract: `Going` holds at the loop's head, and a line put keeps it.
+-- `put_lines` meets its contract: `LinesGoing` holds at the loop's head, and a line put keeps it.
 use Prim.Native.Nat.{_<_}
 use native.Mathlib.Omega.{arith}
 use lib.ListN.{length-take, length-drop}
-use Rattle.xcf_grid.proofs.LinesLoop.{Going, going-start, next-line, line-copied, going-line, going-over}
+use Rattle.xcf_grid.proofs.LinesLoop.{LinesGoing, going-start, next-line, line-copied, going-line, going-over}
 use Rattle.xcf_grid.proofs.put.put_lines.Statement.{statement}
 use Rattle.xcf_grid.proofs.put.put_lines.Tie as tie
 
 abbrev Inv-loop : tie.InvT-loop
-Inv-loop tile line n pixels₀ at stride from₀ to₀ rest₀ pixels from to rest = Going pixels₀ at stride tile line n pixels to from rest
+Inv-loop tile line n pixels₀ at stride from₀ to₀ rest₀ pixels from to rest = LinesGoing pixels₀ at stride tile line n pixels to from rest
 
 abbrev μ-loop : tie.MeasureT-loop
 μ-loop tile line n pixels₀ at stride from₀ to₀ rest₀ pixels from to rest = rest

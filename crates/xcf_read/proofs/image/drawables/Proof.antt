@@ -1,14 +1,14 @@
--- `drawables` meets its contract: `Going` holds at the loop's head; each drawable has room in the table and keeps it.
+-- `drawables` meets its contract: `DrawablesGoing` holds at the loop's head; each drawable has room in the table and keeps it.
 use Prim.Native.Nat.{_-_}
 use mathlib.Core.Path.{_∙_}
 use native.Mathlib.Omega.{arith}
 use borrow.Author.Needs.{needs}
-use Rattle.xcf_read.proofs.DrawablesLoop.{Going, going-start, going-next, going-over, room-for-one}
+use Rattle.xcf_read.proofs.DrawablesLoop.{DrawablesGoing, going-start, going-next, going-over, room-for-one}
 use Rattle.xcf_read.proofs.image.drawables.Statement.{statement}
 use Rattle.xcf_read.proofs.image.drawables.Tie as tie
 
 abbrev Inv-loop : tie.InvT-loop
-Inv-loop file size table₀ kind c at n k next₀ rows₀ link₀ i₀ table next rows link i = Going size file next₀ kind c at n k table₀ table next rows link i
+Inv-loop file size table₀ kind c at n k next₀ rows₀ link₀ i₀ table next rows link i = DrawablesGoing size file next₀ kind c at n k table₀ table next rows link i
 
 abbrev μ-loop : tie.MeasureT-loop
 μ-loop file size table₀ kind c at n k next₀ rows₀ link₀ i₀ table next rows link i = n - i

@@ -1,15 +1,15 @@
--- `pointers` meets its contract: `Going` holds at the loop's head; a pointer keeps it (`going-next`),
+-- `pointers` meets its contract: `PointersGoing` holds at the loop's head; a pointer keeps it (`going-next`),
 -- and so does what ends the loop, a 0 or a refusal (`going-last`).
 use Prim.Native.Nat.{suc, _-_}
 use mathlib.Core.Bool.{cond}
 use native.Mathlib.Omega.{arith}
 use borrow.Author.Needs.{needs}
-use Rattle.xcf_read.proofs.PointersLoop.{Going, going-start, going-next, going-last}
+use Rattle.xcf_read.proofs.PointersLoop.{PointersGoing, going-start, going-next, going-last}
 use Rattle.xcf_read.proofs.image.pointers.Statement.{statement}
 use Rattle.xcf_read.proofs.image.pointers.Tie as tie
 
 abbrev Inv-loop : tie.InvT-loop
-Inv-loop file size most next₀ count₀ again₀ next count again = Going size file next₀ most again next count
+Inv-loop file size most next₀ count₀ again₀ next count again = PointersGoing size file next₀ most again next count
 
 abbrev μ-loop : tie.MeasureT-loop
 μ-loop file size most next₀ count₀ again₀ next count again = cond again (suc (most - count)) 0

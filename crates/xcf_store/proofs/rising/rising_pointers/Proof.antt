@@ -1,4 +1,4 @@
--- `rising_pointers` meets its contract: `Going` holds at the loop's head, and a word that rises keeps it; as many words are read as
+-- `rising_pointers` meets its contract: `RisingGoing` holds at the loop's head, and a word that rises keeps it; as many words are read as
 -- lie in the file.
 use Prim.Native.Nat.{_+_, _-_, _*_, _≤_}
 use mathlib.Core.Path.{_≡_}
@@ -6,12 +6,12 @@ use native.Mathlib.Nat.{mul-le-mul-left}
 use native.Mathlib.Omega.{arith}
 use borrow.Author.Needs.{needs}
 use lib.ListN.{length}
-use Rattle.xcf_store.proofs.RisingLoop.{Going, going-start, going-next, going-falls, going-beyond, going-over}
+use Rattle.xcf_store.proofs.RisingLoop.{RisingGoing, going-start, going-next, going-falls, going-beyond, going-over}
 use Rattle.xcf_store.proofs.rising.rising_pointers.Statement.{statement}
 use Rattle.xcf_store.proofs.rising.rising_pointers.Tie as tie
 
 abbrev Inv-loop : tie.InvT-loop
-Inv-loop file at n size end most last₀ count₀ last count = (count ≤ most) × Going size file at n count last
+Inv-loop file at n size end most last₀ count₀ last count = (count ≤ most) × RisingGoing size file at n count last
 
 abbrev μ-loop : tie.MeasureT-loop
 μ-loop file at n size end most last₀ count₀ last count = most - count

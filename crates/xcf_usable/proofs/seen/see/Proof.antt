@@ -59,7 +59,7 @@ one-requires-4 c κs = search needs
 add-t16 : tie.Need-add-t16
 add-t16 c =
     let start = c .before .before .before .before .before .before .before .before .before .before .before .before .before .before in
-    let adds = adds-one (c .before .before .is-active-layer .result) (counts start .chosen) (start .pre .0) (c .before .one4 .ensures) in
+    let adds = adds-one (c .before .before .is-active-layer .result) (counts start .current) (start .pre .0) (c .before .one4 .ensures) in
     omega arith
 
 is-active-channel-requires : tie.Need-is-active-channel-requires

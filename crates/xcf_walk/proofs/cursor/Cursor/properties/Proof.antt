@@ -12,8 +12,8 @@ Inv-loop file list unmapped cursor₀ p₀ again₀ cursor p again = Going (prop
 abbrev μ-loop : tie.MeasureT-loop
 μ-loop file list unmapped cursor₀ p₀ again₀ cursor p again = bytesLeft file again cursor
 
-absent-requires : tie.Need-absent-requires Inv-loop μ-loop
-absent-requires c κs = search needs
+defaults-requires : tie.Need-defaults-requires Inv-loop μ-loop
+defaults-requires c κs = search needs
 
 loop-holds : tie.Need-loop-holds Inv-loop μ-loop
 loop-holds c = going-start
@@ -35,13 +35,13 @@ none-requires c κs = search needs
 returns : tie.Need-returns Inv-loop μ-loop
 unfolding properties
 returns c =
-    rw (c .none .ensures, ← c .before .before .before .before .before .absent .ensures)
+    rw (c .none .ensures, ← c .before .before .before .before .before .defaults .ensures)
     (reads-none (c .before .if1 .taken) (going-over (c .before .before .before .before .loop .inv) (c .before .before .before .loop-test .left)))
 
 returns-2 : tie.Need-returns-2 Inv-loop μ-loop
 unfolding properties
 returns-2 c =
-    rw (← c .before .before .before .before .absent .ensures)
+    rw (← c .before .before .before .before .defaults .ensures)
     (reads-live (c .if1 .left) (going-over (c .before .before .before .loop .inv) (c .before .before .loop-test .left)))
 
 pub properties-spec : {M : Type 1} → statement M
@@ -50,7 +50,7 @@ properties-spec =
     (tie.spec
     Inv-loop
     μ-loop
-    absent-requires
+    defaults-requires
     loop-holds
     property-turn-requires
     loop-less
