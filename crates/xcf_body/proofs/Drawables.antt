@@ -23,15 +23,15 @@ use Rattle.xcf_body.specs.Parts.{RowReady, endOf, Placed}
 pub row-writable : {table names : List ℕ} {k : ℕ} {pixels : List ℕ} → RowReady table names k pixels → Writable (rowDrawable table names k pixels)
 row-writable {table} {names} {k} x = record {
   drawn = x .drawn;
-  named = part-length names (rowAt table k .name) (rowAt table k .size) (x .named);
+  named = part-length names (rowAt table k .name) (rowAt table k .namelen) (x .named);
   short = x .short;
 }
 
 -- row k's drawable, as the code takes it from the table and the names
 pub row-taken : (table names pixels : List ℕ) (k : ℕ) {r : Row} {m : Bool} → r ≡ rowAt table k → m ≡ masked table k
-    → drawn r m (take (r .name + r .size - r .name) (drop (r .name) names)) pixels ≡ rowDrawable table names k pixels
+    → drawn r m (take (r .name + r .namelen - r .name) (drop (r .name) names)) pixels ≡ rowDrawable table names k pixels
 row-taken table names pixels k e m =
-    let size : rowAt table k .name + rowAt table k .size - rowAt table k .name ≡ rowAt table k .size = omega arith in
+    let size : rowAt table k .name + rowAt table k .namelen - rowAt table k .name ≡ rowAt table k .namelen = omega arith in
     rw (e, m, size)
 
 -- where drawables end is not before where they begin

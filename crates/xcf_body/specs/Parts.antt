@@ -20,15 +20,15 @@ RowsInRange table n = (k : ℕ) → k < n → InRange (rowAt table k)
 -- row k of a table in range, with its pixels, and with its name among the names
 pub record RowReady (table names : List ℕ) (k : ℕ) (pixels : List ℕ) : Type 0 where
   pub drawn : Drawn (rowAt table k) pixels
-  pub named : rowAt table k .name + rowAt table k .size ≤ length names
-  pub short : rowAt table k .size ≤ nameLimit
+  pub named : rowAt table k .name + rowAt table k .namelen ≤ length names
+  pub short : rowAt table k .namelen ≤ nameLimit
 
 -- the first n rows in range, with their names among the names, and the pixels of all of them
 pub record RowsReady (table names pixels : List ℕ) (n : ℕ) : Type 0 where
   pub few : n ≤ tableRows
   pub range : RowsInRange table n
-  pub named : (k : ℕ) → k < n → rowAt table k .name + rowAt table k .size ≤ length names
-  pub short : (k : ℕ) → k < n → rowAt table k .size ≤ nameLimit
+  pub named : (k : ℕ) → k < n → rowAt table k .name + rowAt table k .namelen ≤ length names
+  pub short : (k : ℕ) → k < n → rowAt table k .namelen ≤ nameLimit
   pub whole : length pixels ≡ pixelsSize table n 0
 
 -- where drawables end, one behind the other from p on

@@ -37,7 +37,7 @@ pixelsSize table (suc n) k = pixelSize (rowAt table k) + pixelsSize table n (k +
 -- the drawable of row k, with its pixels
 abbrev pub rowDrawable : List ℕ → List ℕ → ℕ → List ℕ → Drawable
 rowDrawable table names k pixels =
-    let r = rowAt table k in record { row = r; hasMask = masked table k; name = part names (r .name) (r .size); pixels = pixels }
+    let r = rowAt table k in record { row = r; hasMask = masked table k; name = part names (r .name) (r .namelen); pixels = pixels }
 
 -- n drawables from row k on, with their pixels in row order
 unfoldable pub drawablesFrom : List ℕ → ℕ → ℕ → List ℕ → List ℕ → List Drawable

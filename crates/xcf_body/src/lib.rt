@@ -71,7 +71,7 @@ fn measure_row(table: &[u32], k: u32, names: &[u8], pixels: &[u8]) -> usize
 {
     let row = row_at(table, k);
     let name = row.name as usize;
-    let end = name + row.size as usize;
+    let end = name + row.namelen as usize;
     measure_drawable(row, masked(table, k), &names[name..end], pixels)
 }
 
@@ -120,7 +120,7 @@ fn put_row(
 {
     let row = row_at(table, k);
     let name = row.name as usize;
-    let name_end = name + row.size as usize;
+    let name_end = name + row.namelen as usize;
     let has_mask = masked(table, k);
     let mask = or_zero(has_mask, end);
     put_drawable(

@@ -67,13 +67,13 @@ unfolding drawableRefusal
 drawable-ready size f n r compression fit = go (rowRefusal size (length f) n r compression) refl fit
   where
     go : (m : ℕ) → rowRefusal size (length f) n r compression ≡ m → (b : Bool)
-        → cond (eqb m 0) (cond b (pointersRefusal (run (tiles size (r .count) 0) f (r .tiles))) (refusal Refusal.wrongBuffer 0)) (refusal m 0) .number ≡ 0
+        → cond (eqb m 0) (cond b (pointersRefusal (run (tiles size (r .count) 0) f (r .pointers))) (refusal Refusal.wrongBuffer 0)) (refusal m 0) .number ≡ 0
         → Ready size f r compression × (b ≡ true)
     go (suc m) e b z = absurd (let h : suc m ≡ 0 = rw (ne-eqb (suc m) 0 (λ h. omega (arith, h))) at z in omega (arith, h))
     go zero e false z = absurd (omega (arith, z))
     go zero e true z =
         let usable = row-usable size (length f) n r compression e in
-        let end = pointers-taken (run (tiles size (r .count) 0) f (r .tiles)) (λ n p e. numbered-tiles size (r .count) 0 .number f (r .tiles) e) z in
+        let end = pointers-taken (run (tiles size (r .count) 0) f (r .pointers)) (λ n p e. numbered-tiles size (r .count) 0 .number f (r .pointers) e) z in
         (record { sized = usable .0; range = usable .1; way = usable .2; end = end .0; pointers = end .1 }, refl)
 
 pub fit-lengths : (r : Row) (pixels marks : ℕ) → fits r pixels marks ≡ true → (pixels ≡ r .width * r .height * r .depth) × (marks ≡ r .count)

@@ -35,7 +35,7 @@ lentFits r (Buffers pixels marks) = fits r pixels marks
 unfoldable pub drawableRefusal : ℕ → List ℕ → ℕ → Row → ℕ → Bool → DecodeAnswer
 drawableRefusal size file tableLength r compression fit =
     let n = rowRefusal size (length file) tableLength r compression in
-    cond (eqb n 0) (cond fit (pointersRefusal (run (tiles size (r .count) 0) file (r .tiles))) (refusal Refusal.wrongBuffer 0)) (refusal n 0)
+    cond (eqb n 0) (cond fit (pointersRefusal (run (tiles size (r .count) 0) file (r .pointers))) (refusal Refusal.wrongBuffer 0)) (refusal n 0)
 
 -- the marks of a row's tiles, and how many of some marks are not zero
 unfoldable pub marksOf : ℕ → List ℕ → Row → ℕ → List ℕ

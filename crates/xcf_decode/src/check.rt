@@ -35,9 +35,9 @@ fn fits_lent(row: Row, lent: Lent) -> bool
 // 13 at the lowest bad word of the row's tile pointers, or number 0.
 fn pointers_refusal(file: &[u8], row: Row, size: usize) -> DecodeAnswer
     requires { ⌜ PointerSize size ⌝ }
-    ensures { λ r. ⌜ r ≡ pointersRefusal (run (tiles size (row .count) 0) (now (file .entry)) (row .tiles)) ⌝ }
+    ensures { λ r. ⌜ r ≡ pointersRefusal (run (tiles size (row .count) 0) (now (file .entry)) (row .pointers)) ⌝ }
 {
-    let end = tiles(start(row.tiles as usize), file, size, row.count);
+    let end = tiles(start(row.pointers as usize), file, size, row.count);
     if end.number != 0 {
         return refusal(end.number as u64, end.at as u64);
     }

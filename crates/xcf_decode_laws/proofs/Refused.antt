@@ -58,7 +58,7 @@ abbrev Listed : DecodeAnswer → Type 0
 Listed a = listed decoderNumbers (a .number) ≡ true
 
 module _ (size : ℕ) (f : List ℕ) (n : ℕ) (r : Row) (compression : ℕ) where
-  pointers-inside : decodableRow size (length f) r compression ≡ true → r .tiles + size * (r .count + 1) ≤ length f
+  pointers-inside : decodableRow size (length f) r compression ≡ true → r .pointers + size * (r .count + 1) ≤ length f
   unfolding decodableRow inFile
   pointers-inside e =
       let row = and-eq-true-iff (inRange r) _ .0 (and-eq-true-iff (pointerSizeOk size) _ .0 e .1) in
@@ -70,8 +70,8 @@ module _ (size : ℕ) (f : List ℕ) (n : ℕ) (r : Row) (compression : ℕ) whe
   outcome-listed (got u q) h = refl
   outcome-listed (refused m p) h = rw (h m p refl)
 
-  pointers-listed : decodableRow size (length f) r compression ≡ true → Listed (pointersRefusal (run (tiles size (r .count) 0) f (r .tiles)))
-  pointers-listed e = outcome-listed _ (λ m p x. pointers-13 size f (r .count) 0 (r .tiles) (pointers-inside e) x)
+  pointers-listed : decodableRow size (length f) r compression ≡ true → Listed (pointersRefusal (run (tiles size (r .count) 0) f (r .pointers)))
+  pointers-listed e = outcome-listed _ (λ m p x. pointers-13 size f (r .count) 0 (r .pointers) (pointers-inside e) x)
 
   drawable-listed : (fit : Bool) → Listed (drawableRefusal size f n r compression fit)
   unfolding drawableRefusal rowRefusal listed
@@ -81,7 +81,7 @@ module _ (size : ℕ) (f : List ℕ) (n : ℕ) (r : Row) (compression : ℕ) whe
       refusalAt a b c = cond a (cond b (cond c 0 14) 15) 11
 
       go : (a b c : Bool) → decodableRow size (length f) r compression ≡ c → (fit : Bool)
-          → Listed (cond (eqb (refusalAt a b c) 0) (cond fit (pointersRefusal (run (tiles size (r .count) 0) f (r .tiles))) (refusal Refusal.wrongBuffer 0)) (refusal (refusalAt a b c) 0))
+          → Listed (cond (eqb (refusalAt a b c) 0) (cond fit (pointersRefusal (run (tiles size (r .count) 0) f (r .pointers))) (refusal Refusal.wrongBuffer 0)) (refusal (refusalAt a b c) 0))
       go true true true e true = pointers-listed e
       go true true true e false = refl
       go true true false e fit = refl

@@ -26,7 +26,7 @@ module _ {size : ℕ} {f : List ℕ} {S : ℕ → Type 0} {r : Row} (sized : Poi
 
   in-file : inFile size (length f) r ≡ true
   unfolding inFile
-  in-file = rw (eq-eqb _ _ (row .count), le-leb _ _ (tiles-inside size (r .count) 0 f (r .tiles) (row .tiles .pointers)))
+  in-file = rw (eq-eqb _ _ (row .count), le-leb _ _ (tiles-inside size (r .count) 0 f (r .pointers) (row .tiles .pointers)))
 
   usable : (compression : ℕ) → compression ≤ 1 → decodableRow size (length f) r compression ≡ true
   unfolding decodableRow

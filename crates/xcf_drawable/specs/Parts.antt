@@ -16,8 +16,8 @@ encodingsLimit = 1090781184
 -- a drawable with numbers in range, and with the name and the pixels that they say
 pub record Writable (d : Drawable) : Type 0 where
   pub drawn : Drawn (d .row) (d .pixels)
-  pub named : length (d .name) ≡ d .row .size
-  pub short : d .row .size ≤ nameLimit
+  pub named : length (d .name) ≡ d .row .namelen
+  pub short : d .row .namelen ≤ nameLimit
 
 -- room for n bytes from a place on, in the output and in a file
 pub record Space (output : List ℕ) (to n : ℕ) : Type 0 where

@@ -52,7 +52,7 @@ module _ (f g lent : List ℕ) (Chosen : ℕ → ℕ → Type 0) (accepted : rea
   windows k row t below free =
       let r = rowOf (reading f lent) k in
       let read = accepts f lent accepted .row k row in
-      let end = tiles-end pointerSize (r .count) 0 f (r .tiles) (read .tiles .pointers) in
+      let end = tiles-end pointerSize (r .count) 0 f (r .pointers) (read .tiles .pointers) in
       window-same pointerSize f g r (damage .long) (λ i lo hi. structure-same damage i (read .tiles .passed i lo (omega (arith, end .0))))
       t below (window-byte-same damage k t (record { row = row; tile = below }) free)
 

@@ -16,12 +16,12 @@ use Rattle.xcf_table.specs.declared.Row.{Row}
 use Rattle.xcf_window.specs.Window.{pointerAt, windowEnd, windowLength, window, InWindow}
 
 module _ (size : ℕ) (f g : List ℕ) (r : Row) (same : length f ≡ length g)
-    (pointers : (i : ℕ) → r .tiles ≤ i → i < r .tiles + size * (r .count + 1) → getD f i 0 ≡ getD g i 0) where
+    (pointers : (i : ℕ) → r .pointers ≤ i → i < r .pointers + size * (r .count + 1) → getD f i 0 ≡ getD g i 0) where
   pointer-same : (t : ℕ) → t < r .count → pointerAt size g r t ≡ pointerAt size f r t
   unfolding pointerAt
   pointer-same t below =
       let room : size * (t + 1) ≤ size * (r .count + 1) = mul-le-mul-left size (omega arith) in
-      ap (bigEndian 0) (sym (part-same f g (r .tiles + size * t) size same (λ i lo hi. pointers i (omega arith) (omega arith))))
+      ap (bigEndian 0) (sym (part-same f g (r .pointers + size * t) size same (λ i lo hi. pointers i (omega arith) (omega arith))))
 
   end-same : (t : ℕ) → windowEnd size g r t ≡ windowEnd size f r t
   unfolding windowEnd

@@ -28,9 +28,9 @@ use Rattle.xcf_decode.proofs.Usable.{drawable-ready}
 use Rattle.xcf_listing.specs.Listing.{markedTiles}
 
 -- the marks of a row in range
-range-few : (size : ℕ) {r : Row} {compression : ℕ} (file : List ℕ) → InRange r → nonzero (marksOf size file r compression) ≤ 65536
+range-few : (size : ℕ) {r : Row} (compression : ℕ) (file : List ℕ) → InRange r → nonzero (marksOf size file r compression) ≤ 65536
 unfolding marksOf
-range-few size {r} {compression} file range =
+range-few size {r} compression file range =
     omega (
       arith,
       nonzero-below (r .count) (λ t. tile size file r compression t .mark),
@@ -47,8 +47,8 @@ refusal-none : (size : ℕ) (file : List ℕ) (n : ℕ) (r : Row) (compression :
 unfolding drawableRefusal
 refusal-none size file n r compression =
     let row = rowRefusal size (length file) n r compression in
-    by-cases (λ (a : DecodeAnswer). a .marked ≡ 0) (eqb row 0) (pointersRefusal (run (tiles size (r .count) 0) file (r .tiles))) (refusal row 0)
-    (λ _. outcome-none (run (tiles size (r .count) 0) file (r .tiles))) (λ _. refl)
+    by-cases (λ (a : DecodeAnswer). a .marked ≡ 0) (eqb row 0) (pointersRefusal (run (tiles size (r .count) 0) file (r .pointers))) (refusal row 0)
+    (λ _. outcome-none (run (tiles size (r .count) 0) file (r .pointers))) (λ _. refl)
 
 pub marked-few : (size : ℕ) (file table : List ℕ) (k compression : ℕ) → counting size file table k compression .marked ≤ 65536
 unfolding counting
@@ -57,7 +57,7 @@ marked-few size file table k compression =
     let n = length table in
     let answer = drawableRefusal size file n r compression true in
     by-cases (λ (a : DecodeAnswer). a .marked ≤ 65536) (eqb (answer .number) 0) (counted (marksOf size file r compression)) answer
-    (λ e. range-few size file (drawable-ready size file n r compression true (eqb-true _ 0 e) .0 .range))
+    (λ e. range-few size compression file (drawable-ready size file n r compression true (eqb-true _ 0 e) .0 .range))
     (λ _. omega (arith, refusal-none size file n r compression))
 
 module _ (file table : List ℕ) (compression : ℕ) where

@@ -39,7 +39,7 @@ pub record RowRead (size : ℕ) (f : List ℕ) (structure : ℕ → Type 0) (r :
   pub height : (1 ≤ r .height) × (r .height ≤ sideLimit)
   pub depth : (1 ≤ r .depth) × (r .depth ≤ depthLimit)
   pub count : r .count ≡ tileCount (r .width) (r .height)
-  pub tiles : PointersRead size f structure (r .count) (r .tiles)
+  pub tiles : PointersRead size f structure (r .count) (r .pointers)
 
 pub record ImageRead (size : ℕ) (f : List ℕ) (x : Image) : Type 0 where
   pub few : x .rows .count ≤ tableRows
@@ -83,7 +83,7 @@ module _ {size : ℕ} {f : List ℕ} {S : ℕ → Type 0} where
 
   -- a drawable's row, from its numbers and its tiles
   row-read : {r : Row} → (1 ≤ r .kind) × (r .kind ≤ 3) → Side (r .width) → Side (r .height) → Depth (r .depth) → r .count ≡ tileCount (r .width) (r .height)
-      → PointersRead size f S (tileCount (r .width) (r .height)) (r .tiles) → RowRead size f S r
+      → PointersRead size f S (tileCount (r .width) (r .height)) (r .pointers) → RowRead size f S r
   row-read k w h d e t = record { kind = k; width = w; height = h; depth = d; count = e; tiles = rw e t }
 
   -- what a hierarchy ends with

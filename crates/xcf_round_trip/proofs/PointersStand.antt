@@ -30,7 +30,7 @@ starts-counted : (d : Drawable) (p : ℕ) → length (startsOf d p) ≡ d .row .
 starts-counted d p = starts-length (tilesOf d) _ ∙ tiles-counted d
 
 module _ {f : List ℕ} {p : ℕ} (d : Drawable) (s : Stands f p (drawableBytes d p)) where
-  pointers-stand : Stands f (readRow d p .tiles) (words (startsOf d p ++ (0 ∷ [])))
+  pointers-stand : Stands f (readRow d p .pointers) (words (startsOf d p ++ (0 ∷ [])))
   unfolding levelBytes readRow
   pointers-stand =
       let ps = startsOf d p ++ (0 ∷ []) in
@@ -49,6 +49,6 @@ module _ {f : List ℕ} {p : ℕ} (d : Drawable) (s : Stands f p (drawableBytes 
       stands = tiles-stand d s;
     }
 
-    pub walked : Gives (tiles pointerSize (readRow d p .count) 0) f (readRow d p .tiles) tt
+    pub walked : Gives (tiles pointerSize (readRow d p .count) 0) f (readRow d p .pointers) tt
     unfolding readRow
     walked = rw starts-counted at (reads-tiles 0 (startsOf d p) small starts-rise pointers-stand)

@@ -22,9 +22,9 @@ use Rattle.xcf_round_trip.proofs.FlagsGiven.{layer-flags, unmasked-flag
 
 -- the row r is s but for its places
 abbrev pub Like : Row → Row → Type 0
-Like r s = r ≡ withPlaces s (r .name) (r .list) (r .tiles)
+Like r s = r ≡ withPlaces s (r .name) (r .list) (r .pointers)
 
-like-says : (P : Row → Type 0) {r : Row} (s : Row) → Like r s → P (withPlaces s (r .name) (r .list) (r .tiles)) → P r
+like-says : (P : Row → Type 0) {r : Row} (s : Row) → Like r s → P (withPlaces s (r .name) (r .list) (r .pointers)) → P r
 like-says P s e = subst P (sym e)
 
 module _ (names : ℕ) (r : Row) (excepted : RowExcepted names r) where

@@ -29,7 +29,7 @@ withPlaces r name list tiles = record {
   depth = r .depth;
   form = r .form;
   name = name;
-  size = r .size;
+  size = r .namelen;
   list = list;
   tiles = tiles;
   count = r .count;
@@ -43,7 +43,7 @@ withPlaces r name list tiles = record {
 
 -- of the row r that was lent and the row s that was read from the file f: the bytes of their names are the same
 abbrev pub SameName : List ℕ → List ℕ → Row → Row → Type 0
-SameName names f r s = part f (s .name) (s .size) ≡ part names (r .name) (r .size)
+SameName names f r s = part f (s .name) (s .size) ≡ part names (r .name) (r .namelen)
 
 -- the file f reads back: the reader, lent any table of the right length, gives the canvas and the rows; each used row is the one lent
 -- but for fields 5, 7 and 8, and the others are unused in both tables; each used row has its name; and the decoder, lent the file and that table, and buffers of the right length

@@ -16,10 +16,10 @@ use Rattle.xcf_round_trip.specs.RoundTrip.{withPlaces}
 -- what is asked of each row: 6 at most 1,024, 5 plus 6 at most the number of lent name bytes, 7 and 8 zero, mode at most 21, type at
 -- most 3, no group flag
 pub record RowExcepted (names : ℕ) (r : Row) : Type 0 where
-  pub short : r .size ≤ nameLimit
-  pub named : r .name + r .size ≤ names
+  pub short : r .namelen ≤ nameLimit
+  pub named : r .name + r .namelen ≤ names
   pub list : r .list ≡ 0
-  pub tiles : r .tiles ≡ 0
+  pub tiles : r .pointers ≡ 0
   pub mode : r .mode ≤ modeLimit
   pub form : r .form ≤ writtenTypeLimit
   pub ungrouped : r .flags < Flag.group
@@ -36,7 +36,7 @@ GivenIsTaken =
     (file lent table : List ℕ) (names : ℕ) →
     let x = reading file lent in
     x .answer .number ≡ 0
-    → ((k : ℕ) → k < tableRows → let r = rowAt table k in r ≡ withPlaces (rowAt (x .table) k) (r .name) (r .list) (r .tiles))
+    → ((k : ℕ) → k < tableRows → let r = rowAt table k in r ≡ withPlaces (rowAt (x .table) k) (r .name) (r .list) (r .pointers))
     → ((k : ℕ) → k < tableRows → RowExcepted names (rowAt table k))
     → ((k : ℕ) → k < tableRows → rowAt table k .kind ≡ Kind.unused → rowAt table k .name ≡ 0)
     → RowsExcepted table

@@ -11,7 +11,7 @@ use Rattle.xcf_table.specs.declared.Row.{Row}
 -- a row's numbers, fields 0 to 15
 abbrev pub rowNumbers : Row → List ℕ
 rowNumbers r =
-    r .kind ∷ r .width ∷ r .height ∷ r .depth ∷ r .form ∷ r .name ∷ r .size ∷ r .list ∷ r .tiles ∷ r .count
+    r .kind ∷ r .width ∷ r .height ∷ r .depth ∷ r .form ∷ r .name ∷ r .namelen ∷ r .list ∷ r .pointers ∷ r .count
     ∷ r .opacity ∷ r .flags ∷ r .dx ∷ r .dy ∷ r .mode ∷ r .owner ∷ []
 
 -- rows one after another: how many, and their numbers
@@ -42,9 +42,9 @@ rowIn table at = record {
   depth = getD table (at + 3) 0;
   form = getD table (at + 4) 0;
   name = getD table (at + 5) 0;
-  size = getD table (at + 6) 0;
+  namelen = getD table (at + 6) 0;
   list = getD table (at + 7) 0;
-  tiles = getD table (at + 8) 0;
+  pointers = getD table (at + 8) 0;
   count = getD table (at + 9) 0;
   opacity = getD table (at + 10) 0;
   flags = getD table (at + 11) 0;

@@ -9,8 +9,8 @@ ghost use Rattle.xcf_numbers.specs.Limit.{rowSize};
 ghost use Rattle.xcf_table.specs.Table.{rowNumbers, putRow, rowIn, unusedRow, rowAt, clearFrom};
 use xcf_numbers::limit::ROW_SIZE;
 
-// A drawable's row, fields 0 to 15: form is its type, name and size are the place and the number of its name's bytes,
-// list and tiles the places of its properties and of its first tile pointer, and count the number of its tiles.
+// A drawable's row, fields 0 to 15: form is its type, name and namelen are the place and the number of its name's bytes,
+// list and pointers the places of its properties and of its first tile pointer, and count the number of its tiles.
 pub struct Row {
     pub kind: u32,
     pub width: u32,
@@ -18,9 +18,9 @@ pub struct Row {
     pub depth: u32,
     pub form: u32,
     pub name: u32,
-    pub size: u32,
+    pub namelen: u32,
     pub list: u32,
-    pub tiles: u32,
+    pub pointers: u32,
     pub count: u32,
     pub opacity: u32,
     pub flags: u32,
@@ -41,9 +41,9 @@ impl Row {
             self.depth,
             self.form,
             self.name,
-            self.size,
+            self.namelen,
             self.list,
-            self.tiles,
+            self.pointers,
             self.count,
             self.opacity,
             self.flags,
@@ -87,9 +87,9 @@ pub fn unused_row() -> Row
         depth: 0,
         form: 0,
         name: 0,
-        size: 0,
+        namelen: 0,
         list: 0,
-        tiles: 0,
+        pointers: 0,
         count: 0,
         opacity: 0,
         flags: 0,
@@ -112,9 +112,9 @@ fn row_in(table: &[u32], at: usize) -> Row
         depth: table[at + 3],
         form: table[at + 4],
         name: table[at + 5],
-        size: table[at + 6],
+        namelen: table[at + 6],
         list: table[at + 7],
-        tiles: table[at + 8],
+        pointers: table[at + 8],
         count: table[at + 9],
         opacity: table[at + 10],
         flags: table[at + 11],

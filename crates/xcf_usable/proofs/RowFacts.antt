@@ -26,10 +26,10 @@ pub record DrawableFacts (names : ℕ) (r : Row) : Type 0 where
   pub high : (1 ≤ r .height) × (r .height ≤ sideLimit)
   pub count : r .count ≡ tileCount (r .width) (r .height)
   pub opaque : r .opacity ≤ fullOpacity
-  pub short : r .size ≤ nameLimit
-  pub named : r .name + r .size ≤ names
+  pub short : r .namelen ≤ nameLimit
+  pub named : r .name + r .namelen ≤ names
   pub list : r .list ≡ 0
-  pub tiles : r .tiles ≡ 0
+  pub tiles : r .pointers ≡ 0
   pub deep : (1 ≤ r .depth) × (r .depth ≤ depthLimit)
 
 -- a layer's numbers
@@ -104,7 +104,7 @@ drawable-says names r e deep =
     let t =
     each
     (sideOk (r .width) ∷ sideOk (r .height) ∷ eqb (r .count) (tileCount (r .width) (r .height)) ∷ leb (r .opacity) fullOpacity
-    ∷ leb (r .size) nameLimit ∷ leb (r .name + r .size) names ∷ eqb (r .list) 0 ∷ eqb (r .tiles) 0 ∷ [])
+    ∷ leb (r .namelen) nameLimit ∷ leb (r .name + r .namelen) names ∷ eqb (r .list) 0 ∷ eqb (r .pointers) 0 ∷ [])
     e in
     record {
       wide = within-bounds 1 sideLimit (r .width) (t 0);

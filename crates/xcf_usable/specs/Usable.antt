@@ -93,7 +93,7 @@ drawableOk names r =
     sideOk (r .width)
     && (sideOk (r .height)
     && (eqb (r .count) (tileCount (r .width) (r .height))
-    && (leb (r .opacity) fullOpacity && (leb (r .size) nameLimit && (leb (r .name + r .size) names && (eqb (r .list) 0 && eqb (r .tiles) 0))))))
+    && (leb (r .opacity) fullOpacity && (leb (r .namelen) nameLimit && (leb (r .name + r .namelen) names && (eqb (r .list) 0 && eqb (r .pointers) 0))))))
 
 -- a layer's numbers: its type is 0 to 3 and the image's; it applies a mask only where it has one
 unfoldable pub layerOk : Canvas → ℕ → Row → Bool → Bool

@@ -48,13 +48,13 @@ pub(crate) fn drawable_ok(names: usize, row: Row) -> bool
     ensures { λ r. ⌜ r ≡ drawableOk names row ⌝ }
 {
     let tiles = tile_count(row.width, row.height);
-    let name_end = row.name as u64 + row.size as u64;
+    let name_end = row.name as u64 + row.namelen as u64;
     side_ok(row.width)
         & (side_ok(row.height)
             & ((row.count as u64 == tiles)
                 & ((row.opacity <= FULL_OPACITY)
-                    & ((row.size <= NAME_LIMIT)
-                        & ((name_end <= names as u64) & ((row.list == 0) & (row.tiles == 0)))))))
+                    & ((row.namelen <= NAME_LIMIT)
+                        & ((name_end <= names as u64) & ((row.list == 0) & (row.pointers == 0)))))))
 }
 
 pub(crate) fn layer_ok(canvas: Canvas, k: u32, row: Row, masked: bool) -> bool

@@ -29,8 +29,8 @@ use Rattle.xcf_window.proofs.Cuts.{cut-same}
 use Rattle.xcf_grid.proofs.Grid.{tile-width, tile-height}
 use Rattle.xcf_window.proofs.TilePointers.{tiles-inside}
 
-pub pointers-inside : {size : ℕ} {f : List ℕ} {r : Row} {compression : ℕ} → Ready size f r compression → r .tiles + size * (r .count + 1) ≤ length f
-pointers-inside {size} {f} {r} ready = tiles-inside size (r .count) 0 f (r .tiles) (ready .pointers)
+pub pointers-inside : {size : ℕ} {f : List ℕ} {r : Row} {compression : ℕ} → Ready size f r compression → r .pointers + size * (r .count + 1) ≤ length f
+pointers-inside {size} {f} {r} ready = tiles-inside size (r .count) 0 f (r .pointers) (ready .pointers)
 
 -- what the decoding of a tile gives where it is not refused
 decoded-gives : {ws : List ℕ} {w h depth compression : ℕ} {old new : List ℕ} {a : TileAnswer}

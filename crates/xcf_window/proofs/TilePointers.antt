@@ -79,12 +79,12 @@ tiles-rise size (suc n) before f at e (suc t) below =
     let after : at + size * (suc t + 1) ≡ at + size + size * (t + 1) = omega arith in
     rw (next, after) (tiles-rise size n _ f (at + size) (passed size n before f at e .rest) t (omega arith))
 
-pub window-inside : (size : ℕ) (f : List ℕ) (r : Row) {q : ℕ} → got tt q ≡ run (tiles size (r .count) 0) f (r .tiles)
+pub window-inside : (size : ℕ) (f : List ℕ) (r : Row) {q : ℕ} → got tt q ≡ run (tiles size (r .count) 0) f (r .pointers)
     → (t : ℕ) → t < r .count → (pointerAt size f r t < windowEnd size f r t) × (windowEnd size f r t ≤ length f)
 unfolding pointerAt windowEnd
 window-inside size f r e t below =
-    by-cases (λ (end : ℕ). (numberAt size f (r .tiles + size * t) < end) × (end ≤ length f)) (ltb (t + 1) (r .count)) _ _
+    by-cases (λ (end : ℕ). (numberAt size f (r .pointers + size * t) < end) × (end ≤ length f)) (ltb (t + 1) (r .count)) _ _
     (λ more.
     let h = ltb-true (t + 1) (r .count) more in
-    (tiles-rise size (r .count) 0 f (r .tiles) e t h, omega (arith, tiles-below size (r .count) 0 f (r .tiles) e (t + 1) h)))
-    (λ _. (tiles-below size (r .count) 0 f (r .tiles) e t below, omega arith))
+    (tiles-rise size (r .count) 0 f (r .pointers) e t h, omega (arith, tiles-below size (r .count) 0 f (r .pointers) e (t + 1) h)))
+    (λ _. (tiles-below size (r .count) 0 f (r .pointers) e t below, omega arith))

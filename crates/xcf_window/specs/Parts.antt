@@ -16,7 +16,7 @@ pub record Ready (size : ℕ) (f : List ℕ) (r : Row) (compression : ℕ) : Typ
   pub range : InRange r
   pub way : compression ≤ 1
   pub end : ℕ
-  pub pointers : got tt end ≡ run (tiles size (r .count) 0) f (r .tiles)
+  pub pointers : got tt end ≡ run (tiles size (r .count) 0) f (r .pointers)
 
 -- the tile's mark, and its pixels at the start of a scratch, whose rest stays
 pub record Scratched (t : Tile) (m : ℕ) (old new : List ℕ) : Type 0 where

@@ -18,7 +18,7 @@ inRange r =
 
 -- the count fits the sides; all pointers and the closing word lie in the file
 unfoldable pub inFile : ℕ → ℕ → Row → Bool
-inFile size fileLength r = eqb (r .count) (tileCount (r .width) (r .height)) && leb (r .tiles + size * (r .count + 1)) fileLength
+inFile size fileLength r = eqb (r .count) (tileCount (r .width) (r .height)) && leb (r .pointers + size * (r .count + 1)) fileLength
 
 unfoldable pub decodableRow : ℕ → ℕ → Row → ℕ → Bool
 decodableRow size fileLength r compression = pointerSizeOk size && (inRange r && (inFile size fileLength r && leb compression 1))

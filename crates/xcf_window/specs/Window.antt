@@ -14,7 +14,7 @@ use Rattle.xcf_tile.specs.Tile.{Tile, tileOf}
 
 -- the pointer of a row's tile t
 unfoldable pub pointerAt : ℕ → List ℕ → Row → ℕ → ℕ
-pointerAt size f r t = numberAt size f (r .tiles + size * t)
+pointerAt size f r t = numberAt size f (r .pointers + size * t)
 
 unfoldable pub windowEnd : ℕ → List ℕ → Row → ℕ → ℕ
 windowEnd size f r t = cond (ltb (t + 1) (r .count)) (pointerAt size f r (t + 1)) (length f)

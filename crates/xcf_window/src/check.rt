@@ -43,7 +43,7 @@ fn in_file(length: usize, row: Row, size: usize) -> bool
     if row.count as u64 != tile_count(row.width, row.height) {
         return false;
     }
-    row.tiles as usize + size * (row.count as usize + 1) <= length
+    row.pointers as usize + size * (row.count as usize + 1) <= length
 }
 
 fn usable(length: usize, row: Row, compression: u32, size: usize) -> bool

@@ -14,15 +14,15 @@ use xcf_tile::decode_tile;
 
 // The pointer of tile t.
 fn pointer_at(file: &[u8], row: Row, size: usize, t: u32) -> usize
-    requires { ⌜ PointerSize size × (row .tiles + size * (t + 1) ≤ length (now file)) ⌝ }
+    requires { ⌜ PointerSize size × (row .pointers + size * (t + 1) ≤ length (now file)) ⌝ }
     ensures { λ r. ⌜ r ≡ pointerAt size (now (file .entry)) row t ⌝ }
 {
-    number_at(file, row.tiles as usize + size * (t as usize), size) as usize
+    number_at(file, row.pointers as usize + size * (t as usize), size) as usize
 }
 
 // Where the window of tile t ends, before it is cut.
 fn window_end(file: &[u8], row: Row, size: usize, t: u32) -> usize
-    requires { ⌜ PointerSize size × (t < row .count) × (row .tiles + size * (row .count + 1) ≤ length (now file)) ⌝ }
+    requires { ⌜ PointerSize size × (t < row .count) × (row .pointers + size * (row .count + 1) ≤ length (now file)) ⌝ }
     ensures { λ r. ⌜ r ≡ windowEnd size (now (file .entry)) row t ⌝ }
 {
     let next = t + 1;

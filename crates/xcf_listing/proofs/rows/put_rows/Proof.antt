@@ -4,6 +4,7 @@ use mathlib.Core.Path.{_≡_, ap}
 use Prim.Native.Nat.{_-_}
 use native.Mathlib.Omega.{arith}
 use borrow.Author.Needs.{needs}
+use Rattle.xcf_store.specs.Pointer.{pointerSize}
 use Rattle.xcf_decode.specs.Answer.{counting}
 use Rattle.xcf_listing.proofs.RowLines.{RowsListed, rows-start, rows-room, rows-few, rows-turn, rows-whole, rows-length}
 use Rattle.xcf_listing.proofs.rows.put_rows.Statement.{statement}
@@ -25,7 +26,7 @@ begin c = c .before .before .before .before .before
 
 -- the row's marked tiles
 marked : (c : tie.After-count-marked Inv-loop μ-loop) → let s = begin (c .before) .args in
-    c .count-marked .result .marked ≡ counting (s .file .now) (s .table .now) (c .before .before .loop .k) (s .compression) .marked
+    c .count-marked .result .marked ≡ counting pointerSize (s .file .now) (s .table .now) (c .before .before .loop .k) (s .compression) .marked
 marked c = ap (λ a. a .marked) (c .count-marked .ensures)
 
 loop-holds : tie.Need-loop-holds Inv-loop μ-loop
