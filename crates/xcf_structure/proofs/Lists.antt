@@ -5,12 +5,13 @@ use mathlib.Core.List.{List, [], _∷_, _++_, flatMap}
 use mathlib.Core.Bool.{Bool, true, false, cond}
 use Prim.Native.Nat.{ℕ, _+_}
 use lib.ListN.{length, length-append}
-use lib.Dec.{eqb}
+use Rattle.xcf_numbers.specs.Flag
+use Rattle.xcf_numbers.specs.Flag.{flagSet}
 use Rattle.xcf_numbers.specs.PropertyType
 use Rattle.xcf_laws.proofs.FlatMaps.{flatMap-append}
 use Rattle.xcf_property.specs.Property.{activeType}
 use Rattle.xcf_table.specs.declared.Row.{Row}
-use Rattle.xcf_usable.specs.Usable.{isLayer, visible, apply, selection, active}
+use Rattle.xcf_usable.specs.Usable.{isLayer, visible, apply}
 use Rattle.xcf_store.specs.Word.{wordBytes, words, when}
 use Rattle.xcf_structure.specs.Structure.{Property, propertyBytes, listBytes, worded, drawableProperties}
 use Rattle.xcf_store.proofs.Words.{words-length, when-length}
@@ -45,7 +46,7 @@ layer-words a b c = refl
 -- the list as it is stored: from a part on to its end
 module _ (r : Row) (hasMask : Bool) where
   abbrev pub endOn : List ℕ
-  endOn = words (0 ∷ 0 ∷ [])
+  endOn = words (PropertyType.end ∷ 0 ∷ [])
 
   abbrev pub layerOn : List ℕ
   layerOn = words (when (isLayer r) (PropertyType.mode ∷ 4 ∷ r .mode ∷ PropertyType.offsets ∷ 8 ∷ r .dx ∷ r .dy ∷ [])) ++ endOn
@@ -57,29 +58,29 @@ module _ (r : Row) (hasMask : Bool) where
   shownOn = words (PropertyType.opacity ∷ 4 ∷ r .opacity ∷ PropertyType.visible ∷ 4 ∷ visible r ∷ []) ++ applyOn
 
   abbrev pub activeOn : List ℕ
-  activeOn = words (when (eqb (active r) 1) (activeType (r .kind) ∷ 0 ∷ [])) ++ shownOn
+  activeOn = words (when (flagSet (r .flags) Flag.active) (activeType (r .kind) ∷ 0 ∷ [])) ++ shownOn
 
   abbrev pub selectionOn : List ℕ
-  selectionOn = words (when (eqb (selection r) 1) (PropertyType.selection ∷ 0 ∷ [])) ++ activeOn
+  selectionOn = words (when (flagSet (r .flags) Flag.selection) (PropertyType.selection ∷ 0 ∷ [])) ++ activeOn
 
 pub list-words : (r : Row) (hasMask : Bool) → listBytes (drawableProperties r hasMask) ≡ selectionOn r hasMask
 unfolding drawableProperties
 list-words r hasMask =
     list-six
-    (when (eqb (selection r) 1) (worded PropertyType.selection [] ∷ []))
-    (when (eqb (active r) 1) (worded (activeType (r .kind)) [] ∷ []))
+    (when (flagSet (r .flags) Flag.selection) (worded PropertyType.selection [] ∷ []))
+    (when (flagSet (r .flags) Flag.active) (worded (activeType (r .kind)) [] ∷ []))
     (worded PropertyType.opacity (r .opacity ∷ []) ∷ worded PropertyType.visible (visible r ∷ []) ∷ [])
     (when hasMask (worded PropertyType.apply (apply r ∷ []) ∷ []))
     (when (isLayer r) (worded PropertyType.mode (r .mode ∷ []) ∷ worded PropertyType.offsets (r .dx ∷ r .dy ∷ []) ∷ []))
     (worded PropertyType.end [] ∷ [])
     ∙ rw (
-      list-when (eqb (selection r) 1) _ _ (flag-words 4),
-      list-when (eqb (active r) 1) _ _ (flag-words (activeType (r .kind))),
+      list-when (flagSet (r .flags) Flag.selection) _ _ (flag-words PropertyType.selection),
+      list-when (flagSet (r .flags) Flag.active) _ _ (flag-words (activeType (r .kind))),
       shown-words (r .opacity) (visible r),
-      list-when hasMask _ _ (one-words 11 (apply r)),
+      list-when hasMask _ _ (one-words PropertyType.apply (apply r)),
       list-when (isLayer r) _ _ (layer-words (r .mode) (r .dx) (r .dy)),
-      flag-words 0,
+      flag-words PropertyType.end,
     )
 
-pub list-length : (r : Row) (hasMask : Bool) → length (listBytes (drawableProperties r hasMask)) ≡ cond (eqb (selection r) 1) 8 0 + (cond (eqb (active r) 1) 8 0 + (24 + (cond hasMask 12 0 + (cond (isLayer r) 28 0 + 8))))
+pub list-length : (r : Row) (hasMask : Bool) → length (listBytes (drawableProperties r hasMask)) ≡ cond (flagSet (r .flags) Flag.selection) 8 0 + (cond (flagSet (r .flags) Flag.active) 8 0 + (24 + (cond hasMask 12 0 + (cond (isLayer r) 28 0 + 8))))
 list-length r hasMask = rw list-words (simp (length-append, when-length, words-length))

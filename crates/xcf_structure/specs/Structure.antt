@@ -4,10 +4,12 @@ use mathlib.Core.List.{List, [], _∷_, _++_, flatMap}
 use mathlib.Core.Bool.{Bool, cond}
 use lib.ListN.{length}
 use lib.Dec.{eqb}
+use Rattle.xcf_numbers.specs.Flag
+use Rattle.xcf_numbers.specs.Flag.{flagSet}
 use Rattle.xcf_numbers.specs.PropertyType
 use Rattle.xcf_property.specs.Property.{activeType}
 use Rattle.xcf_table.specs.declared.Row.{Row}
-use Rattle.xcf_usable.specs.Usable.{isLayer, visible, apply, selection, active}
+use Rattle.xcf_usable.specs.Usable.{isLayer, visible, apply}
 use Rattle.xcf_store.specs.Word.{wordBytes, words, when}
 
 -- the most bytes of a drawable's properties, and of its structure
@@ -39,8 +41,8 @@ worded kind ns = record { kind = kind; payload = words ns }
 -- a layer's: 2 if active, 6, 8, 11 if it has a mask, 7, 15, 0; a channel's and a mask's: 4 if selection, 3 if active, 6, 8, 0
 unfoldable pub drawableProperties : Row → Bool → List Property
 drawableProperties r hasMask =
-    when (eqb (selection r) 1) (worded PropertyType.selection [] ∷ [])
-    ++ (when (eqb (active r) 1) (worded (activeType (r .kind)) [] ∷ [])
+    when (flagSet (r .flags) Flag.selection) (worded PropertyType.selection [] ∷ [])
+    ++ (when (flagSet (r .flags) Flag.active) (worded (activeType (r .kind)) [] ∷ [])
     ++ (worded PropertyType.opacity (r .opacity ∷ []) ∷ worded PropertyType.visible (visible r ∷ [])
     ∷ (when hasMask (worded PropertyType.apply (apply r ∷ []) ∷ [])
     ++ (when (isLayer r) (worded PropertyType.mode (r .mode ∷ []) ∷ worded PropertyType.offsets (r .dx ∷ r .dy ∷ []) ∷ [])

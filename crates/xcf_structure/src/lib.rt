@@ -6,6 +6,9 @@ ghost use lib.ListN.{length};
 ghost use Rattle.xcf_numbers.specs.Limit.{nameLimit};
 ghost use Rattle.xcf_store.specs.Put.{Put};
 ghost use Rattle.xcf_structure.specs.Structure.{nameBytes, listBytes, drawableProperties, structureBytes, propertiesLimit, structureLimit};
+use xcf_numbers::flag;
+use xcf_numbers::flag::flag_of;
+use xcf_numbers::flag::flag_set;
 use xcf_numbers::kind;
 use xcf_numbers::property_type;
 use xcf_property::active_type;
@@ -35,8 +38,8 @@ fn name_size(name: &[u8]) -> usize
 fn list_size(row: Row, masked: bool) -> usize
     ensures { λ r. ⌜ (r ≡ length (listBytes (drawableProperties row masked))) × (r ≤ propertiesLimit) ⌝ }
 {
-    let selection = or_zero(row.flags / 4 % 2 == 1, 8);
-    let active = or_zero(row.flags / 8 % 2 == 1, 8);
+    let selection = or_zero(flag_set(row.flags, flag::SELECTION), 8);
+    let active = or_zero(flag_set(row.flags, flag::ACTIVE), 8);
     let apply = or_zero(masked, 12);
     let layer = or_zero(row.kind == kind::LAYER, 28);
     selection + (active + (24 + (apply + (layer + 8))))
@@ -73,13 +76,13 @@ fn put_list(output: &mut [u8], to: usize, row: Row, masked: bool) -> usize
     let selection = put_when(
         output,
         to,
-        row.flags / 4 % 2 == 1,
+        flag_set(row.flags, flag::SELECTION),
         &[property_type::SELECTION, 0],
     );
     let active = put_when(
         output,
         selection,
-        row.flags / 8 % 2 == 1,
+        flag_set(row.flags, flag::ACTIVE),
         &[active_type(row.kind), 0],
     );
     let visible = put_words(
@@ -91,14 +94,14 @@ fn put_list(output: &mut [u8], to: usize, row: Row, masked: bool) -> usize
             row.opacity,
             property_type::VISIBLE,
             4,
-            row.flags % 2,
+            flag_of(row.flags, flag::VISIBLE),
         ],
     );
     let apply = put_when(
         output,
         visible,
         masked,
-        &[property_type::APPLY, 4, row.flags / 2 % 2],
+        &[property_type::APPLY, 4, flag_of(row.flags, flag::APPLY)],
     );
     let layer = put_when(
         output,
