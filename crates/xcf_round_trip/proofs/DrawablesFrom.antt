@@ -181,6 +181,7 @@ module _ (c : Canvas) (table names pixels : List ℕ) (low : (i : ℕ) → getD 
                 whole = part-length pixels (pixelsSize table k 0) (pixelSize (rowAt table k)) (omega (arith, within, a .whole));
               };
               named = rows .named k h;
+              short = rows .short k h;
             });
         listed = record {
           opaque = used-facts c (length names) table (a .usable) k h .opaque;

@@ -44,7 +44,7 @@ use Rattle.xcf_round_trip.proofs.DrawableDecoded.{drawable-decoded}
 use Rattle.xcf_round_trip.proofs.TableRead.{rows-count, table-length, table-row, table-unused, zero-row}
 
 -- a row that was read back is the drawable's but for its places
-row-placed : {s : Row} (d : Drawable) (p : ℕ) → s ≡ readRow d p → s ≡ withPlaces (d .row) (s .name) (s .list) (s .tiles)
+row-placed : {s : Row} (d : Drawable) (p : ℕ) → s ≡ readRow d p → s ≡ withPlaces (d .row) (s .name) (s .list) (s .pointers)
 unfolding readRow
 row-placed d p e = rw e
 

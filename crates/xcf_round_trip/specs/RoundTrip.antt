@@ -22,16 +22,16 @@ use Rattle.xcf_write.specs.Answer.{writing}
 
 -- a row with other numbers in fields 5, 7 and 8
 abbrev pub withPlaces : Row → ℕ → ℕ → ℕ → Row
-withPlaces r name list tiles = record {
+withPlaces r name list pointers = record {
   kind = r .kind;
   width = r .width;
   height = r .height;
   depth = r .depth;
   form = r .form;
   name = name;
-  size = r .namelen;
+  namelen = r .namelen;
   list = list;
-  tiles = tiles;
+  pointers = pointers;
   count = r .count;
   opacity = r .opacity;
   flags = r .flags;
@@ -43,7 +43,7 @@ withPlaces r name list tiles = record {
 
 -- of the row r that was lent and the row s that was read from the file f: the bytes of their names are the same
 abbrev pub SameName : List ℕ → List ℕ → Row → Row → Type 0
-SameName names f r s = part f (s .name) (s .size) ≡ part names (r .name) (r .namelen)
+SameName names f r s = part f (s .name) (s .namelen) ≡ part names (r .name) (r .namelen)
 
 -- the file f reads back: the reader, lent any table of the right length, gives the canvas and the rows; each used row is the one lent
 -- but for fields 5, 7 and 8, and the others are unused in both tables; each used row has its name; and the decoder, lent the file and that table, and buffers of the right length
@@ -61,7 +61,7 @@ pub record ReadsBack (c : Canvas) (table names pixels f lent : List ℕ) : Type 
         rows = usedRows table;
       }
   pub rows : (k : ℕ) → k < usedRows table →
-      let s = rowAt (reading f lent .table) k in s ≡ withPlaces (rowAt table k) (s .name) (s .list) (s .tiles)
+      let s = rowAt (reading f lent .table) k in s ≡ withPlaces (rowAt table k) (s .name) (s .list) (s .pointers)
   pub unused : (k : ℕ) → usedRows table ≤ k → k < tableRows
       → (rowAt (reading f lent .table) k ≡ unusedRow) × (rowAt table k ≡ unusedRow)
   pub named : (k : ℕ) → k < usedRows table → SameName names f (rowAt table k) (rowAt (reading f lent .table) k)
