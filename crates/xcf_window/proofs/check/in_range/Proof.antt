@@ -5,18 +5,29 @@ use borrow.Author.Needs.{needs}
 use Rattle.xcf_numbers.specs.Limit.{sideLimit, depthLimit}
 use Rattle.xcf_range.specs.Range.{within}
 use Rattle.xcf_range.proofs.Bounds.{is-within, is-outside}
+use Rattle.xcf_table.specs.declared.Row.{Row}
 use Rattle.xcf_window.specs.Usable.{inRange}
 use Rattle.xcf_window.proofs.check.in_range.Statement.{statement}
 use Rattle.xcf_window.proofs.check.in_range.Tie as tie
 
-kind-within : (c : tie.Else1) → within 1 3 (c .before .before .args .row .kind) ≡ true
-kind-within c = is-within 1 3 (c .before .before .args .row .kind) (c .before .outside .ensures) (c .if1 .left)
+-- from a test that is passed to the row
+abbrev row : tie.Else1 → Row
+row c = c .before .before .args .row
 
-width-within : (c : tie.Else2) → within 1 sideLimit (c .before .before .before .before .args .row .width) ≡ true
-width-within c = is-within 1 sideLimit (c .before .before .before .before .args .row .width) (c .before .outside2 .ensures) (c .if2 .left)
+abbrev row2 : tie.Else2 → Row
+row2 c = row (c .before .before)
 
-height-within : (c : tie.Else3) → within 1 sideLimit (c .before .before .before .before .before .before .args .row .height) ≡ true
-height-within c = is-within 1 sideLimit (c .before .before .before .before .before .before .args .row .height) (c .before .outside3 .ensures) (c .if3 .left)
+abbrev row3 : tie.Else3 → Row
+row3 c = row2 (c .before .before)
+
+kind-within : (c : tie.Else1) → within 1 3 (row c .kind) ≡ true
+kind-within c = is-within 1 3 (row c .kind) (c .before .outside .ensures) (c .if1 .left)
+
+width-within : (c : tie.Else2) → within 1 sideLimit (row2 c .width) ≡ true
+width-within c = is-within 1 sideLimit (row2 c .width) (c .before .outside2 .ensures) (c .if2 .left)
+
+height-within : (c : tie.Else3) → within 1 sideLimit (row3 c .height) ≡ true
+height-within c = is-within 1 sideLimit (row3 c .height) (c .before .outside3 .ensures) (c .if3 .left)
 
 outside-requires : tie.Need-outside-requires
 outside-requires c κs = search needs
