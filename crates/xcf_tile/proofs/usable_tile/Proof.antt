@@ -36,7 +36,7 @@ returns-2 : tie.Need-returns-2
 unfolding usableTile
 returns-2 c =
     let e = c .before .before in
-    simp (width-within e, is-outside 1 tileSide (e .before .before .args .height) (c .before .outside2 .ensures) (c .if2 .taken))
+    simp (width-within e, is-outside 1 tileSide (begin e .args .height) (c .before .outside2 .ensures) (c .if2 .taken))
 
 outside-requires-3 : tie.Need-outside-requires-3
 outside-requires-3 c κs = search needs
@@ -46,14 +46,14 @@ unfolding usableTile
 returns-3 c =
     let d = c .before .before in
     let e = d .before .before in
-    simp (width-within e, height-within d, is-outside 1 depthLimit (e .before .before .args .depth) (c .before .outside3 .ensures) (c .if3 .taken))
+    simp (width-within e, height-within d, is-outside 1 depthLimit (begin e .args .depth) (c .before .outside3 .ensures) (c .if3 .taken))
 
 returns-4 : tie.Need-returns-4
 unfolding usableTile
 returns-4 c =
     let d = c .before .before in
     let e = d .before .before in
-    simp (width-within e, height-within d, is-within 1 depthLimit (e .before .before .args .depth) (c .before .outside3 .ensures) (c .if3 .left))
+    simp (width-within e, height-within d, is-within 1 depthLimit (begin e .args .depth) (c .before .outside3 .ensures) (c .if3 .left))
 
 pub usable-tile-spec : {M : Type 1} → statement M
 usable-tile-spec =

@@ -43,7 +43,7 @@ returns-2 : tie.Need-returns-2
 unfolding inRange
 returns-2 c =
     let e = c .before .before in
-    simp (kind-within e, is-outside 1 sideLimit (e .before .before .args .row .width) (c .before .outside2 .ensures) (c .if2 .taken))
+    simp (kind-within e, is-outside 1 sideLimit (row e .width) (c .before .outside2 .ensures) (c .if2 .taken))
 
 outside-requires-3 : tie.Need-outside-requires-3
 outside-requires-3 c κs = search needs
@@ -53,7 +53,7 @@ unfolding inRange
 returns-3 c =
     let d = c .before .before in
     let e = d .before .before in
-    simp (kind-within e, width-within d, is-outside 1 sideLimit (e .before .before .args .row .height) (c .before .outside3 .ensures) (c .if3 .taken))
+    simp (kind-within e, width-within d, is-outside 1 sideLimit (row e .height) (c .before .outside3 .ensures) (c .if3 .taken))
 
 outside-requires-4 : tie.Need-outside-requires-4
 outside-requires-4 c κs = search needs
@@ -64,7 +64,7 @@ returns-4 c =
     let b = c .before .before in
     let d = b .before .before in
     let e = d .before .before in
-    simp (kind-within e, width-within d, height-within b, is-outside 1 depthLimit (e .before .before .args .row .depth) (c .before .outside4 .ensures) (c .if4 .taken))
+    simp (kind-within e, width-within d, height-within b, is-outside 1 depthLimit (row e .depth) (c .before .outside4 .ensures) (c .if4 .taken))
 
 returns-5 : tie.Need-returns-5
 unfolding inRange
@@ -72,7 +72,7 @@ returns-5 c =
     let b = c .before .before in
     let d = b .before .before in
     let e = d .before .before in
-    simp (kind-within e, width-within d, height-within b, is-within 1 depthLimit (e .before .before .args .row .depth) (c .before .outside4 .ensures) (c .if4 .left))
+    simp (kind-within e, width-within d, height-within b, is-within 1 depthLimit (row e .depth) (c .before .outside4 .ensures) (c .if4 .left))
 
 pub in-range-spec : {M : Type 1} → statement M
 in-range-spec =
