@@ -6,7 +6,7 @@ use native.Mathlib.Omega.{arith}
 use borrow.Author.Needs.{needs}
 use Rattle.xcf_numbers.specs.Limit.{tableRows}
 use Rattle.xcf_usable.specs.Usable.{isLayer, isChannel, isUnused}
-use Rattle.xcf_usable.proofs.Counts.{seen-next, one-most, CountsMost, seen-most}
+use Rattle.xcf_usable.proofs.Counts.{seen-behind, one-most, CountsMost, seen-most}
 use Rattle.xcf_usable.proofs.seen.see.Statement.{statement}
 use Rattle.xcf_usable.proofs.seen.see.Tie as tie
 
@@ -89,27 +89,18 @@ add-t22 c = let o = c .before in omega (arith, adds (begin (layers (channels (un
 
 returns : tie.Need-returns
 returns c =
-    let six = c .before in
-    let five = six .before .before .before in
-    let four = five .before .before .before in
-    let three = four .before .before .before in
-    let two = three .before .before .before in
-    let first = two .before .before .before in
-    let found = first .before .before in
-    rw (
-      first .one .ensures,
-      two .one2 .ensures,
-      three .one3 .ensures,
-      four .one4 .ensures,
-      five .one5 .ensures,
-      six .one6 .ensures,
-      four .before .is-active-layer .ensures,
-      five .before .is-active-channel .ensures,
-      six .before .is-selection .ensures,
-      seen-next,
-      ← found .before .before .pre .1,
-      found .row-at .ensures,
-    )
+    let o = c .before in
+    let a = active o in
+    let n = current a in
+    let u = unused n in
+    let h = channels u in
+    let l = layers h in
+    let s = begin l in
+    seen-behind (s .args .table .now) (s .args .k) (s .pre .1) (row l .row-at .ensures)
+    (l .one .ensures) (h .one2 .ensures) (u .one3 .ensures)
+    (n .before .is-active-layer .ensures) (n .one4 .ensures)
+    (a .before .is-active-channel .ensures) (a .one5 .ensures)
+    (o .before .is-selection .ensures) (o .one6 .ensures)
 
 pub see-spec : {M : Type 1} → statement M
 see-spec =
