@@ -1,5 +1,5 @@
--- What the rows before a row are: one row more counts what it is (`before-next`, `seen-next`, `counted`); a count of the rows
--- before row k is at most k (`before-most`), and at most m where no row that passes has m before it (`few-pass`).
+-- What the rows before a row are: one row more counts what it is (`before-next`, `seen-next`, `seen-behind`, `counted`); a count
+-- of the rows before row k is at most k (`before-most`), and at most m where no row that passes has m before it (`few-pass`).
 -- Assumes nothing.
 use Prim.Native.Nat.{ℕ, zero, suc, _+_, _≤_, _<_}
 use mathlib.Core.Path.{_≡_, refl}
@@ -18,7 +18,7 @@ unfolding countBefore
 before-next test table k = rw add-one
 
 -- what is seen behind a row
-abbrev pub seeing : Seen → Row → Seen
+abbrev seeing : Seen → Row → Seen
 seeing s r = record {
   layers = s .layers + cond (isLayer r) 1 0;
   channels = s .channels + cond (isChannel r) 1 0;
@@ -29,9 +29,27 @@ seeing s r = record {
   row = r;
 }
 
-pub seen-next : (table : List ℕ) (k : ℕ) → seenAt table (k + 1) ≡ seeing (seenAt table k) (rowAt table k)
+seen-next : (table : List ℕ) (k : ℕ) → seenAt table (k + 1) ≡ seeing (seenAt table k) (rowAt table k)
 unfolding seenAt countBefore rowBefore
 seen-next table k = rw add-one
+
+-- the counts made one by one
+pub seen-behind : (table : List ℕ) (k : ℕ) {s : Seen} {r : Row} {l c u n m o : ℕ} {layer channel selection : Bool}
+    → s ≡ seenAt table k → r ≡ rowAt table k
+    → l ≡ cond (isLayer r) 1 0 → c ≡ cond (isChannel r) 1 0 → u ≡ cond (isUnused r) 1 0
+    → layer ≡ isActiveLayer r → n ≡ cond layer 1 0
+    → channel ≡ isActiveChannel r → m ≡ cond channel 1 0
+    → selection ≡ isSelection r → o ≡ cond selection 1 0
+    → _≡_ {A = Seen} (record {
+      layers = s .layers + l;
+      channels = s .channels + c;
+      unused = s .unused + u;
+      current = s .current + n;
+      active = s .active + m;
+      selections = s .selections + o;
+      row = r;
+    }) (seenAt table (k + 1))
+seen-behind table k es er el ec eu ela en ech em ese eo = rw (el, ec, eu, en, em, eo, ela, ech, ese, seen-next, ← es, er)
 
 pub one-most : (b : Bool) → cond b 1 0 ≤ 1
 one-most true = omega arith

@@ -6,6 +6,13 @@ use Rattle.xcf_tile.proofs.Whole.{copied, plain-short, plain-whole}
 use Rattle.xcf_tile.proofs.decode_plain.Statement.{statement}
 use Rattle.xcf_tile.proofs.decode_plain.Tie as tie
 
+-- from the end to the start, of a window that is too short and of one that is not
+abbrev short : tie.After-ended → tie.Start
+short c = c .before .before .before .before .before .before .before .before
+
+abbrev whole : tie.After-ended2 → tie.Start
+whole c = c .before .before .before .before .before .before .before .before .before
+
 clear-requires : tie.Need-clear-requires
 clear-requires c κs = search needs
 
@@ -17,7 +24,7 @@ same-length c = search needs
 
 returns : tie.Need-returns
 returns c =
-    let start = c .before .before .before .before .before .before .before .before in
+    let start = short c in
     rw (c .ended .ensures, c .before .before .before .clear .ensures, start .pre .exact)
     (plain-short _ (start .args .n) (start .args .depth) (omega (arith, start .pre)))
 
@@ -35,7 +42,7 @@ same-length-2 c = search needs
 
 returns-2 : tie.Need-returns-2
 returns-2 c =
-    let start = c .before .before .before .before .before .before .before .before .before in
+    let start = whole c in
     rw (c .ended2 .ensures, c .before .before .before .copy .ensures .1, copied (start .args .window .now) (start .args .pixels .now) (omega arith), start .pre .exact)
     (plain-whole _ (start .args .n) (start .args .depth) (omega (arith, start .pre)))
 

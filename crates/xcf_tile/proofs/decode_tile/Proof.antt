@@ -9,6 +9,10 @@ use Rattle.xcf_laws.proofs.Products.{small}
 use Rattle.xcf_tile.proofs.decode_tile.Statement.{statement}
 use Rattle.xcf_tile.proofs.decode_tile.Tie as tie
 
+-- from the decoding's end to the test that no refusal is made
+abbrev passed : tie.After-slice-known2 → tie.Else1
+passed c = c .before .before .before .before .before
+
 refusal-requires : tie.Need-refusal-requires
 refusal-requires c κs = search needs
 
@@ -43,7 +47,8 @@ same-length c = search needs
 returns-2 : tie.Need-returns-2
 unfolding tileOf decodeAnswer decodePixels
 returns-2 c =
-    let z = sym (c .before .before .before .before .before .before .refusal .ensures .0) ∙ c .before .before .before .before .before .if1 .left in
+    let p = passed c in
+    let z = sym (p .before .refusal .ensures .0) ∙ p .if1 .left in
     let g = rw (c .before .before .before .before .cut .ensures) at (c .before .before .decode .ensures) in
     record { answer = simp (z, g .mark, g .consumed, g .operations); pixels = simp z (g .pixels) }
 

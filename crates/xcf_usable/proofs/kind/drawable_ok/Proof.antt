@@ -4,6 +4,13 @@ use Rattle.xcf_usable.specs.Usable.{drawableOk}
 use Rattle.xcf_usable.proofs.kind.drawable_ok.Statement.{statement}
 use Rattle.xcf_usable.proofs.kind.drawable_ok.Tie as tie
 
+-- from the answer to the tests of the sides, and from there to the count of the tiles
+abbrev sides : tie.After-struct-known7 → tie.After-side-ok2
+sides c = c .before .before .before .before .before
+
+abbrev tiles : tie.After-side-ok2 → tie.After-tile-count
+tiles c = c .before .before .before .before
+
 tile-count-requires : tie.Need-tile-count-requires
 tile-count-requires c κs = search needs
 
@@ -28,7 +35,8 @@ cast-result c = search needs
 returns : tie.Need-returns
 unfolding drawableOk
 returns c =
-    rw (← c .before .before .before .before .before .side-ok2 .ensures, ← c .before .before .before .before .before .before .side-ok .ensures, ← c .before .before .before .before .before .before .before .before .before .tile-count .ensures)
+    let s = sides c in
+    rw (← s .side-ok2 .ensures, ← s .before .side-ok .ensures, ← tiles s .tile-count .ensures)
 
 pub drawable-ok-spec : {M : Type 1} → statement M
 drawable-ok-spec =

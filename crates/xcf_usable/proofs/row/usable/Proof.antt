@@ -7,6 +7,10 @@ use Rattle.xcf_usable.specs.Usable.{usableRow}
 use Rattle.xcf_usable.proofs.row.usable.Statement.{statement}
 use Rattle.xcf_usable.proofs.row.usable.Tie as tie
 
+-- from an unused row's answer to the start
+abbrev begin : tie.After-zero-row → tie.Start
+begin c = c .before .before .before .before .before
+
 row-at-requires : tie.Need-row-at-requires
 row-at-requires c κs = search needs
 
@@ -16,7 +20,7 @@ zero-row-requires c κs = search needs
 returns : tie.Need-returns
 unfolding usableRow
 returns c =
-    let a = c .before .before .before .before .before .args in
+    let a = begin c .args in
     let unused : rowAt (a .table .now) (a .k) .kind ≡ 0 = rw (c .before .before .before .row-at .ensures) at (c .before .if1 .taken) in
     rw (eq-eqb _ _ unused) (c .zero-row .ensures)
 

@@ -19,8 +19,9 @@ layer-follows-requires c κs = search needs
 returns : tie.Need-returns
 unfolding usableRow
 returns c =
-    let row = c .before .before .before .before .before .args .row in
-    rw (ne-eqb (row .kind) Kind.unused (λ e. omega arith), eq-eqb (row .kind) Kind.layer (c .before .before .before .if1 .taken), c .before .before .drawable-ok .ensures, c .before .layer-ok .ensures, c .layer-follows .ensures)
+    let d = c .before .before in
+    let kind = d .before .before .before .args .row .kind in
+    rw (ne-eqb kind Kind.unused (λ e. omega arith), eq-eqb kind Kind.layer (d .before .if1 .taken), d .drawable-ok .ensures, c .before .layer-ok .ensures, c .layer-follows .ensures)
 
 drawable-ok-requires-2 : tie.Need-drawable-ok-requires-2
 drawable-ok-requires-2 c κs = search needs
@@ -34,8 +35,9 @@ mask-follows-requires c κs = search needs
 returns-2 : tie.Need-returns-2
 unfolding usableRow
 returns-2 c =
-    let row = c .before .before .before .before .before .before .before .args .row in
-    rw (ne-eqb (row .kind) Kind.unused (λ e. omega arith), ne-eqb (row .kind) Kind.layer (c .before .before .before .before .before .if1 .left), eq-eqb (row .kind) Kind.mask (c .before .before .if2 .taken), c .before .before .before .before .drawable-ok2 .ensures, c .before .channel-ok .ensures, c .mask-follows .ensures)
+    let d = c .before .before .before .before in
+    let kind = d .before .before .before .args .row .kind in
+    rw (ne-eqb kind Kind.unused (λ e. omega arith), ne-eqb kind Kind.layer (d .before .if1 .left), eq-eqb kind Kind.mask (c .before .before .if2 .taken), d .drawable-ok2 .ensures, c .before .channel-ok .ensures, c .mask-follows .ensures)
 
 channel-ok-requires-2 : tie.Need-channel-ok-requires-2
 channel-ok-requires-2 c κs = search needs
@@ -46,8 +48,10 @@ channel-follows-requires c κs = search needs
 returns-3 : tie.Need-returns-3
 unfolding usableRow
 returns-3 c =
-    let row = c .before .before .before .before .before .before .before .before .args .row in
-    rw (ne-eqb (row .kind) Kind.unused (λ e. omega arith), ne-eqb (row .kind) Kind.layer (c .before .before .before .before .before .before .if1 .left), ne-eqb (row .kind) Kind.mask (c .before .before .before .if2 .left), c .before .before .before .before .before .drawable-ok2 .ensures, c .before .channel-ok2 .ensures, c .channel-follows .ensures)
+    let other = c .before .before .before in
+    let d = other .before .before in
+    let kind = d .before .before .before .args .row .kind in
+    rw (ne-eqb kind Kind.unused (λ e. omega arith), ne-eqb kind Kind.layer (d .before .if1 .left), ne-eqb kind Kind.mask (other .if2 .left), d .drawable-ok2 .ensures, c .before .channel-ok2 .ensures, c .channel-follows .ensures)
 
 pub used-row-spec : {M : Type 1} → statement M
 used-row-spec =

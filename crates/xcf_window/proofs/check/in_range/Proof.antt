@@ -5,18 +5,29 @@ use borrow.Author.Needs.{needs}
 use Rattle.xcf_numbers.specs.Limit.{sideLimit, depthLimit}
 use Rattle.xcf_range.specs.Range.{within}
 use Rattle.xcf_range.proofs.Bounds.{is-within, is-outside}
+use Rattle.xcf_table.specs.declared.Row.{Row}
 use Rattle.xcf_window.specs.Usable.{inRange}
 use Rattle.xcf_window.proofs.check.in_range.Statement.{statement}
 use Rattle.xcf_window.proofs.check.in_range.Tie as tie
 
-kind-within : (c : tie.Else1) → within 1 3 (c .before .before .args .row .kind) ≡ true
-kind-within c = is-within 1 3 (c .before .before .args .row .kind) (c .before .outside .ensures) (c .if1 .left)
+-- from a test that is passed to the row
+abbrev row : tie.Else1 → Row
+row c = c .before .before .args .row
 
-width-within : (c : tie.Else2) → within 1 sideLimit (c .before .before .before .before .args .row .width) ≡ true
-width-within c = is-within 1 sideLimit (c .before .before .before .before .args .row .width) (c .before .outside2 .ensures) (c .if2 .left)
+abbrev row2 : tie.Else2 → Row
+row2 c = row (c .before .before)
 
-height-within : (c : tie.Else3) → within 1 sideLimit (c .before .before .before .before .before .before .args .row .height) ≡ true
-height-within c = is-within 1 sideLimit (c .before .before .before .before .before .before .args .row .height) (c .before .outside3 .ensures) (c .if3 .left)
+abbrev row3 : tie.Else3 → Row
+row3 c = row2 (c .before .before)
+
+kind-within : (c : tie.Else1) → within 1 3 (row c .kind) ≡ true
+kind-within c = is-within 1 3 (row c .kind) (c .before .outside .ensures) (c .if1 .left)
+
+width-within : (c : tie.Else2) → within 1 sideLimit (row2 c .width) ≡ true
+width-within c = is-within 1 sideLimit (row2 c .width) (c .before .outside2 .ensures) (c .if2 .left)
+
+height-within : (c : tie.Else3) → within 1 sideLimit (row3 c .height) ≡ true
+height-within c = is-within 1 sideLimit (row3 c .height) (c .before .outside3 .ensures) (c .if3 .left)
 
 outside-requires : tie.Need-outside-requires
 outside-requires c κs = search needs
@@ -32,7 +43,7 @@ returns-2 : tie.Need-returns-2
 unfolding inRange
 returns-2 c =
     let e = c .before .before in
-    simp (kind-within e, is-outside 1 sideLimit (e .before .before .args .row .width) (c .before .outside2 .ensures) (c .if2 .taken))
+    simp (kind-within e, is-outside 1 sideLimit (row e .width) (c .before .outside2 .ensures) (c .if2 .taken))
 
 outside-requires-3 : tie.Need-outside-requires-3
 outside-requires-3 c κs = search needs
@@ -42,7 +53,7 @@ unfolding inRange
 returns-3 c =
     let d = c .before .before in
     let e = d .before .before in
-    simp (kind-within e, width-within d, is-outside 1 sideLimit (e .before .before .args .row .height) (c .before .outside3 .ensures) (c .if3 .taken))
+    simp (kind-within e, width-within d, is-outside 1 sideLimit (row e .height) (c .before .outside3 .ensures) (c .if3 .taken))
 
 outside-requires-4 : tie.Need-outside-requires-4
 outside-requires-4 c κs = search needs
@@ -53,7 +64,7 @@ returns-4 c =
     let b = c .before .before in
     let d = b .before .before in
     let e = d .before .before in
-    simp (kind-within e, width-within d, height-within b, is-outside 1 depthLimit (e .before .before .args .row .depth) (c .before .outside4 .ensures) (c .if4 .taken))
+    simp (kind-within e, width-within d, height-within b, is-outside 1 depthLimit (row e .depth) (c .before .outside4 .ensures) (c .if4 .taken))
 
 returns-5 : tie.Need-returns-5
 unfolding inRange
@@ -61,7 +72,7 @@ returns-5 c =
     let b = c .before .before in
     let d = b .before .before in
     let e = d .before .before in
-    simp (kind-within e, width-within d, height-within b, is-within 1 depthLimit (e .before .before .args .row .depth) (c .before .outside4 .ensures) (c .if4 .left))
+    simp (kind-within e, width-within d, height-within b, is-within 1 depthLimit (row e .depth) (c .before .outside4 .ensures) (c .if4 .left))
 
 pub in-range-spec : {M : Type 1} → statement M
 in-range-spec =
