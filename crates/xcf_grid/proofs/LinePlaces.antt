@@ -30,13 +30,17 @@ module _ {source from away target to apart line rest : ℕ} (p : LinePlaces sour
   pub places-next : LinePlaces source (from + away) away target (to + apart) apart line (rest - 1)
   places-next = record { inside = omega (arith, rw another at (p .inside)); room = omega (arith, rw another at (p .room)) }
 
--- the target's part up to its end, with a line of the source copied to its start, put back in its place
+-- the target's part up to its end, with a line of the source copied to its start
+abbrev pub lineCopied : List ℕ → ℕ → List ℕ → ℕ → ℕ → List ℕ
+lineCopied target to source from line =
+    let copied = take (from + line - from) (drop from source) in
+    take (length copied) copied ++ drop (length copied) (take (length target - to) (drop to target))
+
+-- put back in its place
 pub line-copied : (target : List ℕ) (to : ℕ) (source : List ℕ) (from line : ℕ) → (from + line ≤ length source) × (to + line ≤ length target)
-    → (let copied = take (from + line - from) (drop from source) in
-    let part = take (length target - to) (drop to target) in
-    take to target ++ ((take (length copied) copied ++ drop (length copied) part) ++ drop (length target - to) (drop to target)))
-    ≡ paste target to (drop from source) line
-line-copied target to source from line next =
+    → {part : List ℕ} → part ≡ lineCopied target to source from line
+    → take to target ++ (part ++ drop (length target - to) (drop to target)) ≡ paste target to (drop from source) line
+line-copied target to source from line next e =
     let taken : from + line - from ≡ line = omega arith in
     let size : length (take line (drop from source)) ≡ line = length-take-le line (drop from source) (simp length-drop (omega (arith, next))) in
-    rw taken (tail-copied target to (take line (drop from source)) ∙ rw (size, take-take line line _ (omega arith)))
+    rw (e, taken) (tail-copied target to (take line (drop from source)) ∙ rw (size, take-take line line _ (omega arith)))

@@ -1,8 +1,8 @@
 -- `put_lines` meets its contract: `LinesGoing` holds at the loop's head, and a line put keeps it.
 use native.Mathlib.Omega.{arith}
 use lib.ListN.{length-take, length-drop}
-use Rattle.xcf_grid.proofs.LinePlaces.{NextLine, next-line, line-copied}
-use Rattle.xcf_grid.proofs.LinesLoop.{LinesGoing, going-start, going-line, going-over}
+use Rattle.xcf_grid.proofs.LinePlaces.{NextLine, next-line}
+use Rattle.xcf_grid.proofs.LinesLoop.{LinesGoing, going-start, going-copied, going-over}
 use Rattle.xcf_grid.proofs.put.put_lines.Statement.{statement}
 use Rattle.xcf_grid.proofs.put.put_lines.Tie as tie
 
@@ -56,10 +56,7 @@ loop-less : tie.Need-loop-less Inv-loop μ-loop
 loop-less c = omega arith
 
 loop-again : tie.Need-loop-again Inv-loop μ-loop
-loop-again c =
-    let t = turn c in
-    let l = t .before .loop in
-    rw (c .before .before .copy .ensures .1, line-copied (l .pixels) (l .to) _ (l .from) _ (next t)) (going-line (l .inv) (t .loop-test .taken))
+loop-again c = going-copied (turn c .before .loop .inv) (turn c .loop-test .taken) (c .before .before .copy .ensures .1)
 
 same-length : tie.Need-same-length Inv-loop μ-loop
 same-length c = c .before .loop .inv .same

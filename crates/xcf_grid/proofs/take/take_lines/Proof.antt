@@ -2,7 +2,7 @@
 use native.Mathlib.Omega.{arith}
 use lib.ListN.{length-take, length-drop}
 use Rattle.xcf_grid.proofs.LinePlaces.{NextLine, next-line}
-use Rattle.xcf_grid.proofs.TakeLines.{Taking, taking-start, line-stored, taking-line, taking-over}
+use Rattle.xcf_grid.proofs.TakeLines.{Taking, taking-start, taking-copied, taking-over}
 use Rattle.xcf_grid.proofs.take.take_lines.Statement.{statement}
 use Rattle.xcf_grid.proofs.take.take_lines.Tie as tie
 
@@ -59,10 +59,7 @@ loop-less : tie.Need-loop-less Inv-loop μ-loop
 loop-less c = omega arith
 
 loop-again : tie.Need-loop-again Inv-loop μ-loop
-loop-again c =
-    let t = turn c in
-    let l = t .before .loop in
-    rw (c .before .before .copy .ensures .1, line-stored (l .tile) (l .to) _ (l .from) _ (next t)) (taking-line (l .inv) (t .loop-test .taken))
+loop-again c = taking-copied (turn c .before .loop .inv) (turn c .loop-test .taken) (c .before .before .copy .ensures .1)
 
 same-length : tie.Need-same-length Inv-loop μ-loop
 same-length c = c .before .loop .inv .same
