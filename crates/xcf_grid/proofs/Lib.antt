@@ -8,6 +8,7 @@ pub mod PutTile
 pub mod PixelBytes
 pub mod Shown
 pub mod PixelLaws
+pub mod LinePlaces
 pub mod LinesLoop
 pub mod PutRoom
 pub mod FewTiles

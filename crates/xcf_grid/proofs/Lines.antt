@@ -1,6 +1,6 @@
 -- The lines that a tile takes of its drawable's pixels are what the pixels show of the tile (`lines-shown`, `lines-put`): byte by
--- byte, byte b of line j (`lines-entry`) is a byte of the tile's pixel in line j. They fit where the tile's pixels fit (`tiled-fit`),
--- and the numbers on the way there are small (`tiled-small`).
+-- byte, byte b of line j (`lines-entry`) is a byte of the tile's pixel in line j. They fit where the tile's pixels fit (`tiled-fit`,
+-- `lines-fit`), and the numbers on the way there are small (`tiled-small`, `lines-size`).
 -- Assumes nothing.
 use Prim.Native.Nat.{ℕ, zero, suc, _+_, _*_, _/_, _%_, _≤_, _<_}
 use mathlib.Core.Path.{_≡_, sym, ap, _∙_}
@@ -98,7 +98,7 @@ module _ {r : Row} {t : ℕ} {pixels : List ℕ} (d : Tiled r t pixels) where
     deep = d .drawn .range .deep .1;
   }
 
-  pub tiled-fit : (tile : List ℕ) → tw * th * depth ≤ length tile → LinesFit pixels corner (depth * w) (depth * tw) th tile
+  tiled-fit : (tile : List ℕ) → tw * th * depth ≤ length tile → LinesFit pixels corner (depth * w) (depth * tw) th tile
   tiled-fit tile room =
       let f = frame-room tile pixels (placeable tile room) in
       record { source = f .fits .target; target = omega (arith, f .fits .source); small = f .small }
@@ -132,7 +132,14 @@ module _ {r : Row} {t : ℕ} {pixels : List ℕ} (d : Tiled r t pixels) where
           (rw (origin, place) at (lines-entry pixels (depth * w) (depth * tw) corner th (fit .source) py (depth * px + k) high within))
           ∙ sym (shown-entry i below)
 
-  -- the lines taken with the code's numbers put the tile's pixels
+  -- with the code's numbers: the lines fit into a whole tile, their bytes are no more than its, and taken they put the tile's pixels
+  pub lines-fit : {across width height : ℕ} (tile : List ℕ) → across ≡ tilesAlong w → width ≡ tw → height ≡ th → length tile ≡ tileSize
+      → LinesFit pixels (depth * (tileSide * (w * (t / across) + t % across))) (depth * w) (depth * width) height tile
+  lines-fit tile along wide high whole = rw (along, wide, high) (tiled-fit tile (omega (arith, whole, tiled-size .1)))
+
+  pub lines-size : {width height : ℕ} → width ≡ tw → height ≡ th → depth * width * height ≤ tileSize
+  lines-size wide high = rw (wide, high) (omega (arith, tiled-size .1))
+
   pub lines-put : {across width height : ℕ} (tile new : List ℕ) → across ≡ tilesAlong w → width ≡ tw → height ≡ th
       → new ≡ sets tile 0 (lines pixels (depth * (tileSide * (w * (t / across) + t % across))) (depth * w) (depth * width) height)
       → Put tile 0 (shown w (r .height) depth t pixels) (depth * width * height) new

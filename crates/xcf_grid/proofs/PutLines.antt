@@ -12,19 +12,19 @@ use Rattle.xcf_grid.proofs.Pasted.{getD-paste-inside, getD-paste-outsid
 
 -- the first line lies in the tile and in the pixels (`first-source`, `first-target`), and with it in, the others fit (`others`)
 module _ {pixels : List ℕ} {to stride : ℕ} {tile : List ℕ} {from line n : ℕ} (h : LineFits pixels to stride tile from line (suc n)) where
-  pub first-source : from + line ≤ length tile
+  first-source : from + line ≤ length tile
   first-source = omega (arith, h .source)
 
-  pub first-target : to + line ≤ length pixels
+  first-target : to + line ≤ length pixels
   first-target = omega (arith, h .target)
 
   first-there : line ≤ length (drop from tile)
   first-there = omega (arith, first-source, length-drop from tile)
 
-  pub first-length : length (paste pixels to (drop from tile) line) ≡ length pixels
+  first-length : length (paste pixels to (drop from tile) line) ≡ length pixels
   first-length = length-paste pixels to (drop from tile) line first-target first-there
 
-  pub others : LineFits (paste pixels to (drop from tile) line) (to + stride) stride tile (from + line) line n
+  others : LineFits (paste pixels to (drop from tile) line) (to + stride) stride tile (from + line) line n
   others = record { source = omega (arith, h .source); target = omega (arith, h .target, first-length) }
 
 module _ (stride : ℕ) (tile : List ℕ) (line : ℕ) where

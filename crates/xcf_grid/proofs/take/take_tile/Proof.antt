@@ -1,17 +1,21 @@
--- `take_tile` meets its contract: the tile's lines fit (`tiled-fit`), the products on the way there are small (`tiled-small`), and
+-- `take_tile` meets its contract: the tile's lines fit (`lines-fit`), the products on the way there are small (`tiled-small`), and
 -- the lines are what the pixels show of the tile (`lines-put`).
 use native.Mathlib.Omega.{arith}
 use native.Mathlib.Nat.{div-le-self, mod-le}
 use borrow.Author.Needs.{needs}
 use Rattle.xcf_grid.specs.Parts.{frameOf}
 use Rattle.xcf_grid.proofs.PutRoom.{Small}
-use Rattle.xcf_grid.proofs.Lines.{tiled-size, tiled-small, tiled-fit, lines-put}
+use Rattle.xcf_grid.proofs.Lines.{tiled-small, lines-fit, lines-size, lines-put}
 use Rattle.xcf_grid.proofs.take.take_tile.Statement.{statement}
 use Rattle.xcf_grid.proofs.take.take_tile.Tie as tie
 
--- from the place behind `tiles_along` to the start; the numbers on the way to the tile's corner are small
+-- from the place behind `tiles_along` to the start, and from the end to that place; the numbers on the way to the tile's corner are
+-- small
 abbrev begin : tie.After-tiles-along → tie.Start
 begin c = c .before .before .before .before
+
+abbrev along : tie.After-slice-known2 → tie.After-tiles-along
+along c = c .before .before .before .before .before .before
 
 small : (c : tie.After-tiles-along) → Small (begin c .args .row) (frameOf (begin c .args .row) (begin c .args .t))
 small c = tiled-small (begin c .pre .0 .0)
@@ -63,23 +67,22 @@ mul-line c = rw (begin (c .before .before) .pre .1 .0) (omega (arith, small (c .
 
 take-lines-requires : tie.Need-take-lines-requires
 take-lines-requires c κs =
-    let p = c .before .before .before .before .before .before .before .pre in
-    rw (c .before .before .before .tiles-along .ensures .0, p .1 .0, p .1 .1)
-    (tiled-fit (p .0 .0) _ (omega (arith, p .0 .1, tiled-size (p .0 .0) .1)))
+    let a = c .before .before .before in
+    let p = begin a .pre in
+    lines-fit (p .0 .0) _ (a .tiles-along .ensures .0) (p .1 .0) (p .1 .1) (p .0 .1)
 
 mul-result : tie.Need-mul-result
 mul-result c =
-    let p = c .before .before .before .before .before .before .before .before .before .before .pre in
-    rw (p .1 .0, p .1 .1) (omega (arith, tiled-size (p .0 .0) .1))
+    let p = begin (along c) .pre in
+    omega (arith, lines-size (p .0 .0) (p .1 .0) (p .1 .1))
 
 same-length : tie.Need-same-length
 same-length c = search needs
 
 returns : tie.Need-returns
 returns c =
-    let along = c .before .before .before .before .before .before in
-    let p = begin along .pre in
-    lines-put (p .0 .0) _ _ (along .tiles-along .ensures .0) (p .1 .0) (p .1 .1) (c .before .before .take-lines .ensures)
+    let p = begin (along c) .pre in
+    lines-put (p .0 .0) _ _ (along c .tiles-along .ensures .0) (p .1 .0) (p .1 .1) (c .before .before .take-lines .ensures)
 
 pub take-tile-spec : {M : Type 1} → statement M
 take-tile-spec =
