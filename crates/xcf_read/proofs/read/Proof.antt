@@ -13,6 +13,13 @@ use Rattle.xcf_read.proofs.Decided.{accepted, not-accepted}
 use Rattle.xcf_read.proofs.read.Statement.{statement}
 use Rattle.xcf_read.proofs.read.Tie as tie
 
+-- from the accepted answer to the clearing of the table, and from the test of the walk's end to the walk
+abbrev cleared : tie.After-struct-known8 → tie.After-clear-from2
+cleared c = c .before .before .before .before .before .before .before .before .before
+
+abbrev walked : tie.After-struct-known → tie.After-image
+walked c = c .before .before .before .before
+
 refusal-requires : tie.Need-refusal-requires
 refusal-requires c κs = search needs
 
@@ -51,7 +58,7 @@ same-length c = search needs
 returns-3 : tie.Need-returns-3
 returns-3 c =
     let b = c .before .before .before .before in
-    let i = b .before .before .before .before .before .before .before in
+    let i = walked (b .before .before .before) in
     rw (c .refusal3 .ensures) (not-accepted _ (i .before .before .before .if1 .left) (i .before .before .if2 .left) (i .image .ensures .0) (i .image .ensures .1 .1) (b .before .before .if3 .taken) (b .clear-from .ensures))
 
 clear-from-requires-2 : tie.Need-clear-from-requires-2
@@ -80,8 +87,8 @@ same-length-2 c = search needs
 
 returns-4 : tie.Need-returns-4
 returns-4 c =
-    let b = c .before .before .before .before .before .before .before .before .before in
-    let i = b .before .before .before .before .before .before .before in
+    let b = cleared c in
+    let i = walked (b .before .before .before) in
     accepted _ (i .before .before .before .if1 .left) (i .before .before .if2 .left) (i .image .ensures .0) (i .image .ensures .1 .1) (b .before .before .if3 .left) (i .image .ensures .1 .0) (b .clear-from2 .ensures)
 
 pub read-spec : {M : Type 1} → statement M

@@ -6,6 +6,10 @@ use Rattle.xcf_grid.proofs.FewTiles.{few-tiles}
 use Rattle.xcf_row.proofs.channel_row.Statement.{statement}
 use Rattle.xcf_row.proofs.channel_row.Tie as tie
 
+-- from the count of tiles to the start
+abbrev begin : tie.After-tile-count → tie.Start
+begin c = c .before .before .before .before .before
+
 cast-t5 : tie.Need-cast-t5
 cast-t5 c = search needs
 
@@ -23,7 +27,7 @@ tile-count-requires c κs = search needs
 
 cast-t10 : tie.Need-cast-t10
 cast-t10 c =
-    let pre = c .before .before .before .before .before .pre in
+    let pre = begin c .pre in
     omega (arith, c .tile-count .ensures, few-tiles _ _ (pre .1) (pre .2))
 
 channel-flags-requires : tie.Need-channel-flags-requires

@@ -6,6 +6,13 @@ use Rattle.xcf_grid.proofs.FewTiles.{few-tiles}
 use Rattle.xcf_row.proofs.layer_row.Statement.{statement}
 use Rattle.xcf_row.proofs.layer_row.Tie as tie
 
+-- from the fields before the count of tiles to the depth, and to the start
+abbrev depth : tie.After-struct-known3 → tie.After-depth-of
+depth c = c .before .before .before
+
+abbrev begin : tie.After-struct-known3 → tie.Start
+begin c = depth c .before .before .before
+
 depth-of-requires : tie.Need-depth-of-requires
 depth-of-requires c κs = search needs
 
@@ -26,7 +33,7 @@ tile-count-requires c κs = search needs
 
 cast-t12 : tie.Need-cast-t12
 cast-t12 c =
-    let low = c .before .before .before .before .before .before .before .pre .1 in
+    let low = begin (c .before) .pre .1 in
     omega (arith, c .tile-count .ensures, few-tiles _ _ (low .width) (low .height))
 
 layer-flags-requires : tie.Need-layer-flags-requires
@@ -34,7 +41,7 @@ layer-flags-requires c κs = search needs
 
 returns : tie.Need-returns
 unfolding layerRow
-returns c = rw (c .before .before .before .before .before .depth-of .ensures, c .before .tile-count .ensures, c .layer-flags .ensures)
+returns c = rw (depth (c .before .before) .depth-of .ensures, c .before .tile-count .ensures, c .layer-flags .ensures)
 
 pub layer-row-spec : {M : Type 1} → statement M
 layer-row-spec =

@@ -9,6 +9,10 @@ use Rattle.xcf_table.specs.Table.{putRow}
 use Rattle.xcf_table.proofs.put_row.Statement.{statement}
 use Rattle.xcf_table.proofs.put_row.Tie as tie
 
+-- from the row put to the start
+abbrev begin : tie.After-put → tie.Start
+begin c = c .before .before .before .before .before
+
 mul-at : tie.Need-mul-at
 mul-at c = search needs
 
@@ -27,7 +31,7 @@ same-length c = search needs
 returns : tie.Need-returns
 unfolding putRow
 returns c =
-    let a = c .before .before .before .before .before .before .before .args in
+    let a = begin (c .before .before) .args in
     rw (le-leb (rowSize * (a .k + 1)) (length (a .table .now)) (omega arith)) (rw (c .before .before .before .numbers .ensures) at (c .before .before .put .ensures))
 
 returns-2 : tie.Need-returns-2

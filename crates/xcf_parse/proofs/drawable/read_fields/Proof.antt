@@ -15,6 +15,9 @@ use Rattle.xcf_parse.proofs.drawable.read_fields.Statement.{statement}
 use Rattle.xcf_parse.proofs.drawable.read_fields.Tie as tie
 
 -- from a place to the one before it that a need cites
+abbrev pointed : tie.After-properties2 → tie.After-pointer
+pointed c = c .before .before .before .before .before
+
 abbrev named : tie.After-pointer → tie.After-string
 named c = c .before .before .before
 
@@ -66,7 +69,7 @@ returns c =
     (reads-none (c .before .if1 .taken) (leads (c .before .before .before .before)), record { name = omega arith; size = omega arith; list = omega arith })
 
 returns-2 : tie.Need-returns-2
-returns-2 c = let p = c .before .before .before .before .before in (reads-live (c .before .before .if1 .left) (leads p), low p)
+returns-2 c = let p = pointed c in (reads-live (c .before .before .if1 .left) (leads p), low p)
 
 pub read-fields-spec : {M : Type 1} → statement M
 read-fields-spec =

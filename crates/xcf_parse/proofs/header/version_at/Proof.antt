@@ -52,7 +52,10 @@ stands-requires-4 c κs = search needs
 
 -- the version, by the last of the tests
 of-last : (c : tie.After-stands4)
-    → let a = c .before .before .before .before .before .before .before .before .before .before .before .before .args in
+    → let third = c .before .before in
+    let second = third .before .before .before in
+    let first = second .before .before .before in
+    let a = first .before .before .before .before .args in
     versionIn tags (part (a .file .now) (a .at) 5) ≡ suc (suc (suc (cond (c .stands4 .result) 0 1)))
 unfolding versionIn
 of-last c =

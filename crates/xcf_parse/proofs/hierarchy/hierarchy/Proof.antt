@@ -17,21 +17,18 @@ use Rattle.xcf_parse.proofs.hierarchy.hierarchy.Tie as tie
 abbrev seventh : tie.After-tiles → tie.After-agrees5
 seventh c = c .before .before .before
 
-abbrev fourth : tie.After-tiles → tie.After-rest
-fourth c = seventh c .before .before .before .before
+abbrev fourth : tie.After-agrees5 → tie.After-rest
+fourth c = c .before .before .before .before
 
-abbrev start : tie.After-rest → tie.Start
-start c = c .before .before .before .before .before .before
+abbrev begin : tie.After-agrees5 → tie.Start
+begin c = fourth c .before .before .before .before .before .before
 
-abbrev begin : tie.After-tiles → tie.Start
-begin c = start (fourth c)
-
-leads : (c : tie.After-tiles) → let a = begin c .args in
+leads : (c : tie.After-tiles) → let a = begin (seventh c) .args in
     Leads (a .cursor) (hierarchy (a .size) (a .width) (a .height) (a .depth)) (a .file .now) (c .tiles .result) (c .before .place .result)
 unfolding hierarchy
 leads c =
-    let r = fourth c in
     let s = seventh c in
+    let r = fourth s in
     then _ (r .before .before .before .before .agrees .ensures) (then _ (r .before .before .before .agrees2 .ensures) (then _ (r .before .before .agrees3 .ensures)
     (then _ (r .before .pointer .ensures) (then _ (r .rest .ensures) (then _ (by-jump _ _ (s .before .before .jump .ensures))
     (then _ (s .before .agrees4 .ensures) (then _ (s .agrees5 .ensures)
@@ -69,14 +66,14 @@ tile-count-requires c κs = search needs
 
 cast-count : tie.Need-cast-count
 cast-count c =
-    let sides = start (c .before .before .before .before .before) .pre in
+    let sides = begin (c .before) .pre in
     omega (arith, c .tile-count .ensures, few-tiles _ _ (sides .1) (sides .2))
 
 place-requires : tie.Need-place-requires
 place-requires c κs = search needs
 
 tiles-requires : tie.Need-tiles-requires
-tiles-requires c κs = start (c .before .before .before .before .before .before) .pre .0
+tiles-requires c κs = begin (c .before .before) .pre .0
 
 returns : tie.Need-returns
 returns c = (reads-none (c .if1 .taken) (leads (c .before .before)), omega arith)

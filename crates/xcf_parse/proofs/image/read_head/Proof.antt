@@ -13,8 +13,11 @@ use Rattle.xcf_parse.proofs.image.read_head.Tie as tie
 abbrev high : tie.After-properties → tie.After-side2
 high c = c .before .before .before
 
+abbrev begin : tie.After-side2 → tie.Start
+begin c = c .before .before .before .before .before
+
 leads : (c : tie.After-properties) → let b = high c in
-    Leads fileStart head (b .before .before .before .before .before .args .file .now) (c .properties .result .cursor)
+    Leads fileStart head (begin b .args .file .now) (c .properties .result .cursor)
     (record {
       version = b .before .before .header .result .version;
       width = b .before .side .result .value;

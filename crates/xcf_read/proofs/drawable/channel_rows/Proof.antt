@@ -18,6 +18,10 @@ use Rattle.xcf_read.specs.Parts.{Filled}
 use Rattle.xcf_read.proofs.drawable.channel_rows.Statement.{statement}
 use Rattle.xcf_read.proofs.drawable.channel_rows.Tie as tie
 
+-- from the row put to the start
+abbrev begin : tie.After-put-row → tie.Start
+begin c = c .before .before .before .before .before .before .before .before .before .before
+
 row-filled : {c d : Cursor} {w : Walk Rows} {f new : List ℕ} (t : List ℕ) (k : ℕ) (r : Row) → rowSize * (k + 1) ≤ length t → new ≡ putRow t k r
     → Leads c w f d (addRow (rowsIn k t) r) → Filled c w f t d (k + 1) new
 row-filled t k r fits e l = record { leads = rw (e, put-adds t k r fits) l; size = rw e (put-length t k r) }
@@ -41,9 +45,7 @@ put-row-requires : tie.Need-put-row-requires
 put-row-requires c κs = search needs
 
 add-t17 : tie.Need-add-t17
-add-t17 c =
-    let tiles = c .before .before .before .before .before .before in
-    omega (arith, tiles .before .before .before .before .before .before .before .pre .1 .0)
+add-t17 c = omega (arith, begin (c .before .before .before) .pre .1 .0)
 
 same-length : tie.Need-same-length
 same-length c = search needs
@@ -56,7 +58,7 @@ returns c =
     let tiles = row .before .before in
     let down = tiles .before in
     let x = down .before .before .before in
-    let fits = x .before .before .before .pre .1 .1 in (
+    let fits = begin put .pre .1 .1 in (
       row-filled _ _ _ fits (rw (row .channel-row .ensures) at (put .put-row .ensures))
           (then _ (x .read-channel .ensures .0 .leads) (then _ (by-jump _ _ (down .jump .ensures)) (then _ (tiles .hierarchy .ensures .0 .leads) ends))),
       refl,

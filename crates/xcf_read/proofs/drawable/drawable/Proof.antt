@@ -10,6 +10,10 @@ use Rattle.xcf_read.specs.Parts.{drawable, rowsMost}
 use Rattle.xcf_read.proofs.drawable.drawable.Statement.{statement}
 use Rattle.xcf_read.proofs.drawable.drawable.Tie as tie
 
+-- from the owner found to the start
+abbrev begin : tie.After-channel-owner → tie.Start
+begin c = c .before .before .before .before .before
+
 layer-most : (kind : ℕ) → kind ≡ 1 → rowsMost kind 1 ≡ 2
 unfolding rowsMost
 layer-most kind h = rw (eq-eqb _ _ h)
@@ -30,7 +34,7 @@ channel-owner-requires c κs = search needs
 channel-rows-requires : tie.Need-channel-rows-requires
 unfolding channelOwner
 channel-rows-requires c κs =
-    let pre = c .before .before .before .before .before .pre in
+    let pre = begin c .pre in
     let one = channel-most _ (c .before .before .if1 .left) in
     rw (c .channel-owner .ensures) (pre .0, (omega (arith, one, pre .1 .0), omega (arith, one, pre .1)))
 

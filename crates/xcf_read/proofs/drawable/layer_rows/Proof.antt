@@ -11,6 +11,10 @@ use Rattle.xcf_read.specs.Drawable.{layerRows}
 use Rattle.xcf_read.proofs.drawable.layer_rows.Statement.{statement}
 use Rattle.xcf_read.proofs.drawable.layer_rows.Tie as tie
 
+-- from the row put to the layer read
+abbrev layer : tie.After-put-row → tie.After-read-layer
+layer c = c .before .before .before .before .before .before .before .before .before
+
 read-layer-requires : tie.Need-read-layer-requires
 read-layer-requires c κs = search needs
 
@@ -35,7 +39,7 @@ put-row-requires c κs = search needs
 mask-rows-requires : tie.Need-mask-rows-requires
 mask-rows-requires c κs =
     let put = c .before .before .before in
-    let read = put .before .before .before .before .before .before .before .before .before in
+    let read = layer put in
     let start = read .before .before .before in
     let low = read .read-layer .ensures .1 in
     ((start .pre .0 .0, start .pre .0 .1, low .width, low .height), (start .pre .1 .0, rw (put .put-row .ensures, put-length) (start .pre .1 .1)))
@@ -51,7 +55,7 @@ returns c =
     let row = put .before in
     let tiles = row .before .before in
     let down = tiles .before .before in
-    let read = down .before .before .before .before in
+    let read = layer put in
     let start = read .before .before .before in
     let fits : rowSize * (start .args .k + 1) ≤ length (start .args .table .now) = omega (arith, start .pre .1 .1) in
     let filled = mask .mask-rows .ensures in (

@@ -9,6 +9,10 @@ use Rattle.xcf_read.specs.Drawable.{maskRows}
 use Rattle.xcf_read.proofs.drawable.mask_rows.Statement.{statement}
 use Rattle.xcf_read.proofs.drawable.mask_rows.Tie as tie
 
+-- from the owner found to the start
+abbrev begin : tie.After-mask-owner → tie.Start
+begin c = c .before .before .before .before .before .before .before .before
+
 add-t9 : tie.Need-add-t9
 add-t9 c = search needs
 
@@ -31,7 +35,7 @@ add-channel-rows c = search needs
 channel-rows-requires : tie.Need-channel-rows-requires
 unfolding maskOwner
 channel-rows-requires c κs =
-    let pre = c .before .before .before .before .before .before .before .before .pre in
+    let pre = begin c .pre in
     rw (c .mask-owner .ensures) (pre .0, (omega (arith, pre .1 .0), omega (arith, pre .1 .1)))
 
 same-length : tie.Need-same-length

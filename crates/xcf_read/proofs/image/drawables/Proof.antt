@@ -13,9 +13,9 @@ Inv-loop file size table₀ kind c at n k next₀ rows₀ link₀ i₀ table nex
 abbrev μ-loop : tie.MeasureT-loop
 μ-loop file size table₀ kind c at n k next₀ rows₀ link₀ i₀ table next rows link i = n - i
 
--- from the drawable read to the pointer that was followed, to the turn, and to the start
-abbrev followed : tie.After-drawable Inv-loop μ-loop → tie.After-pointer Inv-loop μ-loop
-followed c = c .before .before .before .before .before
+-- from the drawable's place to the pointer that was followed, and from the turn to the start
+abbrev followed : tie.After-drawable-arg Inv-loop μ-loop → tie.After-pointer Inv-loop μ-loop
+followed c = c .before .before .before .before
 
 abbrev begin : tie.In-loop Inv-loop μ-loop → tie.Start Inv-loop μ-loop
 begin c = c .before .before .before .before .before
@@ -37,13 +37,13 @@ jump-requires c κs = search needs
 
 drawable-requires : tie.Need-drawable-requires Inv-loop μ-loop
 drawable-requires c κs =
-    let t = c .before .before .before .before .before in
+    let t = followed c .before in
     let i = t .before .loop .inv in
     let p = begin t .pre in
     (p .0, (omega (arith, room-for-one i (t .loop-test .taken), p .1 .0), i .kept ∙ p .1 .0 .2))
 
 add-i : tie.Need-add-i Inv-loop μ-loop
-add-i c = let t = followed (c .before .before .before) .before in omega (arith, t .loop-test .taken, begin t .pre .1 .0 .0)
+add-i c = let t = followed (c .before .before .before .before) .before in omega (arith, t .loop-test .taken, begin t .pre .1 .0 .0)
 
 loop-less : tie.Need-loop-less Inv-loop μ-loop
 loop-less c = search needs
@@ -51,7 +51,7 @@ loop-less c = search needs
 loop-again : tie.Need-loop-again Inv-loop μ-loop
 loop-again c =
     let b = c .before .before .before in
-    let r = followed b in
+    let r = followed (b .before) in
     going-next (r .before .before .loop .inv) (r .before .loop-test .taken) (r .pointer .ensures .leads) (b .before .before .jump .ensures) (b .drawable .ensures .0) (b .drawable .ensures .1)
 
 same-length : tie.Need-same-length Inv-loop μ-loop

@@ -12,6 +12,13 @@ use Rattle.xcf_read.specs.Parts.{drawable, rowsMost}
 use Rattle.xcf_read.proofs.image.image.Statement.{statement}
 use Rattle.xcf_read.proofs.image.image.Tie as tie
 
+-- from the canvas to the head that it is of, and from there to the start
+abbrev head : tie.After-canvas-of → tie.After-read-head
+head c = c .before .before .before .before
+
+abbrev begin : tie.After-read-head → tie.Start
+begin c = c .before .before .before
+
 read-head-requires : tie.Need-read-head-requires
 read-head-requires c κs = search needs
 
@@ -26,12 +33,12 @@ canvas-of-requires c κs = search needs
 
 canvas-small : (c : tie.After-canvas-of) → (c .canvas-of .result .width ≤ sideLimit) × (c .canvas-of .result .height ≤ sideLimit)
 unfolding canvasOf
-canvas-small c = rw (c .canvas-of .ensures) (c .before .before .before .before .read-head .ensures .1)
+canvas-small c = rw (c .canvas-of .ensures) (head c .read-head .ensures .1)
 
 drawables-requires : tie.Need-drawables-requires
 unfolding rowsMost
 drawables-requires c κs =
-    let pre = c .before .before .before .before .before .before .before .before .pre in
+    let pre = begin (head (c .before)) .pre in
     let layers = c .before .before .before .pointers .ensures in
     let small = canvas-small (c .before) in (
       (pre .0, pre .1, small .0, small .1),
@@ -42,7 +49,7 @@ drawables-requires-2 : tie.Need-drawables-requires-2
 unfolding rowsMost
 drawables-requires-2 c κs =
     let first = c .before .before .before in
-    let pre = first .before .before .before .before .before .before .before .before .before .pre in
+    let pre = begin (head (first .before .before)) .pre in
     let channels = first .before .before .before .pointers2 .ensures in
     let layers = first .before .before .before .before .pointers .ensures in
     let small = canvas-small (first .before .before) in (
@@ -62,13 +69,14 @@ returns c =
     let all = c .before .before .before in
     let first = all .before .before .before .before in
     let b = first .before .before .before in
+    let h = head (first .before .before) in
     let canvas = first .before .before .canvas-of .ensures in
     let d = all .drawables2 .ensures in (
-      then _ (b .before .before .before .read-head .ensures .0 .leads) (then _ (b .before .pointers .ensures .0) (then _ (b .pointers2 .ensures .0)
+      then _ (h .read-head .ensures .0 .leads) (then _ (b .before .pointers .ensures .0) (then _ (b .pointers2 .ensures .0)
           (then _ (rw canvas at (first .drawables .ensures .0 .leads)) (then _ (rw canvas at (d .0 .leads)) ends)))),
       (
         omega (arith, d .1, first .drawables .ensures .1, b .before .pointers .ensures .1, b .pointers2 .ensures .1),
-        d .0 .size ∙ first .drawables .ensures .0 .size ∙ b .before .before .before .before .before .before .pre .2,
+        d .0 .size ∙ first .drawables .ensures .0 .size ∙ begin h .pre .2,
       ),
     )
 

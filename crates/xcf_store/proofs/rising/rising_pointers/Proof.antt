@@ -61,7 +61,8 @@ loop-less c = search needs
 loop-again : tie.Need-loop-again Inv-loop μ-loop
 loop-again c =
     let w = c .before .before .number-at .ensures in
-    (omega arith, rw w (going-next (c .before .before .before .before .loop .inv .1) (omega (arith, c .before .before .before .before .before .pointers-in .ensures .0)) (in-file (c .before .before .before)) (rw (← w) (omega arith)) (rw (← w) (omega arith))))
+    let head = c .before .before .before .before in
+    (omega arith, rw w (going-next (head .loop .inv .1) (omega (arith, head .before .pointers-in .ensures .0)) (in-file (c .before .before .before)) (rw (← w) (omega arith)) (rw (← w) (omega arith))))
 
 returns-3 : tie.Need-returns-3 Inv-loop μ-loop
 returns-3 c = going-over (c .before .loop .inv .1) (λ less.

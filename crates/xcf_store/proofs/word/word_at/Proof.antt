@@ -5,6 +5,10 @@ use Rattle.xcf_store.proofs.Parts.{big-endian-part}
 use Rattle.xcf_store.proofs.word.word_at.Statement.{statement}
 use Rattle.xcf_store.proofs.word.word_at.Tie as tie
 
+-- from the last byte to the start
+abbrev begin : tie.After-wide4 → tie.Start
+begin c = c .before .before .before .before .before .before .before .before .before
+
 shared-slice-read-wide : tie.Need-shared-slice-read-wide
 shared-slice-read-wide c = search needs
 
@@ -57,7 +61,7 @@ add-result-3 : tie.Need-add-result-3
 add-result-3 c = search needs
 
 returns : tie.Need-returns
-returns c = let a = c .before .before .before .before .before .before .before .before .before .args in omega (arith, big-endian-part (a .file .now) (a .at) (c .before .before .before .before .before .before .before .before .before .pre))
+returns c = let s = begin c in omega (arith, big-endian-part (s .args .file .now) (s .args .at) (s .pre))
 
 pub word-at-spec : {M : Type 1} → statement M
 word-at-spec =

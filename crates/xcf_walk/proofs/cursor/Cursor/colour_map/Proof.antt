@@ -9,13 +9,20 @@ use Rattle.xcf_walk.proofs.Resume.{then, then-here, ends, by-skip, by-c
 use Rattle.xcf_walk.proofs.cursor.Cursor.colour_map.Statement.{statement}
 use Rattle.xcf_walk.proofs.cursor.Cursor.colour_map.Tie as tie
 
+-- from the skip to the number of colours read, and to the start
+abbrev colours : tie.After-skip → tie.After-word
+colours c = c .before .before .before .before .before
+
+abbrev begin : tie.After-skip → tie.Start
+begin c = colours c .before .before .before
+
 leads : (c : tie.After-skip)
-    → let a = c .before .before .before .before .before .before .before .before .args in
-    Leads (a .self) (colourMap (a .at) (a .n)) (a .file .now) (c .skip .result) (record { first = c .before .before .before .before .before .word .result .value; second = 0 })
+    → let a = begin c .args in
+    Leads (a .self) (colourMap (a .at) (a .n)) (a .file .now) (c .skip .result) (record { first = colours c .word .result .value; second = 0 })
 unfolding colourMap
 leads c =
-    then _ (by-check _ _ _ _ (omega arith) refl (c .before .before .before .before .before .before .check .ensures))
-    (then-here _ _ (λ _. refl) (then _ (c .before .before .before .before .before .word .ensures .leads) (then _ (by-check _ _ _ _ (omega arith) refl (c .before .before .before .check2 .ensures))
+    then _ (by-check _ _ _ _ (omega arith) refl (colours c .before .check .ensures))
+    (then-here _ _ (λ _. refl) (then _ (colours c .word .ensures .leads) (then _ (by-check _ _ _ _ (omega arith) refl (c .before .before .before .check2 .ensures))
     (then _ (by-check _ _ _ _ (omega arith) refl (c .before .check3 .ensures)) (then _ (by-skip _ _ _ (c .skip .ensures)) ends)))))
 
 check-requires : tie.Need-check-requires

@@ -12,6 +12,10 @@ Inv-loop file list unmapped cursor₀ p₀ again₀ cursor p again = Going (prop
 abbrev μ-loop : tie.MeasureT-loop
 μ-loop file list unmapped cursor₀ p₀ again₀ cursor p again = bytesLeft file again cursor
 
+-- from the loop's end to the values that it began with
+abbrev first : tie.After-struct-known Inv-loop μ-loop → tie.After-defaults Inv-loop μ-loop
+first c = c .before .before .before
+
 defaults-requires : tie.Need-defaults-requires Inv-loop μ-loop
 defaults-requires c κs = search needs
 
@@ -35,13 +39,13 @@ none-requires c κs = search needs
 returns : tie.Need-returns Inv-loop μ-loop
 unfolding properties
 returns c =
-    rw (c .none .ensures, ← c .before .before .before .before .before .defaults .ensures)
+    rw (c .none .ensures, ← first (c .before .before) .defaults .ensures)
     (reads-none (c .before .if1 .taken) (going-over (c .before .before .before .before .loop .inv) (c .before .before .before .loop-test .left)))
 
 returns-2 : tie.Need-returns-2 Inv-loop μ-loop
 unfolding properties
 returns-2 c =
-    rw (← c .before .before .before .before .defaults .ensures)
+    rw (← first (c .before) .defaults .ensures)
     (reads-live (c .if1 .left) (going-over (c .before .before .before .loop .inv) (c .before .before .loop-test .left)))
 
 pub properties-spec : {M : Type 1} → statement M

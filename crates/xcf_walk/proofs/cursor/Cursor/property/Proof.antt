@@ -8,6 +8,10 @@ use Rattle.xcf_walk.proofs.Resume.{then, then-here, ends, reads-live, r
 use Rattle.xcf_walk.proofs.cursor.Cursor.property.Statement.{statement}
 use Rattle.xcf_walk.proofs.cursor.Cursor.property.Tie as tie
 
+-- from the property to its content, which was read last
+abbrev content : tie.After-struct-known2 → tie.After-content
+content c = c .before .before .before .before .before
+
 leads : (c : tie.After-content)
     → let a = c .before .before .before .before .args in
     let kind = c .before .before .word .result in
@@ -41,7 +45,7 @@ cast-t12 : tie.Need-cast-t12
 cast-t12 c = search needs
 
 returns-2 : tie.Need-returns-2
-returns-2 c = reads-live (c .before .before .if1 .left) (leads (c .before .before .before .before .before))
+returns-2 c = reads-live (c .before .before .if1 .left) (leads (content c))
 
 pub property-spec : {M : Type 1} → statement M
 property-spec =

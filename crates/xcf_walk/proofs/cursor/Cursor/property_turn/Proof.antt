@@ -14,17 +14,24 @@ use Rattle.xcf_walk.proofs.Within.{moves-on}
 use Rattle.xcf_walk.proofs.cursor.Cursor.property_turn.Statement.{statement}
 use Rattle.xcf_walk.proofs.cursor.Cursor.property_turn.Tie as tie
 
+-- from the last check to the property read, and to the start
+abbrev read : tie.After-check3 → tie.After-property
+read c = c .before .before .before .before .before .before .before .before
+
+abbrev begin : tie.After-check3 → tie.Start
+begin c = read c .before .before
+
 leads : (c : tie.After-put)
-    → let read = c .before .before .before .before .before .before .before .before .before .before in
-    let a = read .before .before .args in
-    Leads (a .self) (propertyTurn (a .list) (a .p)) (a .file .now) (c .before .before .check3 .result)
-    (turnOf (not (eqb (read .property .result .property .kind) 0)) (c .put .result))
+    → let third = c .before .before in
+    let a = begin third .args in
+    Leads (a .self) (propertyTurn (a .list) (a .p)) (a .file .now) (third .check3 .result)
+    (turnOf (not (eqb (read third .property .result .property .kind) 0)) (c .put .result))
 unfolding propertyTurn
 leads c =
     let third = c .before .before in
     let second = third .before .before in
     let first = second .before .before in
-    then _ (first .before .before .before .before .property .ensures .leads)
+    then _ (read third .property .ensures .leads)
     (then _ (by-check _ _ _ _ (omega arith) (ap not (first .before .is-floating .ensures)) (first .check .ensures))
     (then _ (by-check _ _ _ _ (omega arith) (ap not (second .before .lacks-map .ensures)) (second .check2 .ensures))
     (then _ (by-check _ _ _ _ (omega arith) (third .before .allowed .ensures) (third .check3 .ensures)) (rw (c .put .ensures, cond-not) ends))))

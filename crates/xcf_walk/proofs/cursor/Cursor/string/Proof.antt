@@ -9,13 +9,20 @@ use Rattle.xcf_walk.proofs.Resume.{then, then-here, ends, by-skip, by-c
 use Rattle.xcf_walk.proofs.cursor.Cursor.string.Statement.{statement}
 use Rattle.xcf_walk.proofs.cursor.Cursor.string.Tie as tie
 
+-- from the last check to the size read, and to the start
+abbrev size : tie.After-check → tie.After-word
+size c = c .before .before .before .before
+
+abbrev begin : tie.After-check → tie.Start
+begin c = size c .before .before
+
 leads : (c : tie.After-check)
-    → let a = c .before .before .before .before .before .before .args in
-    let n = c .before .before .before .before .word .result in
+    → let a = begin c .args in
+    let n = size c .word .result in
     Leads (a .self) string (a .file .now) (c .check .result) (record { place = n .cursor .at; length = n .value - 1 })
 unfolding string
 leads c =
-    then-here _ _ (λ _. refl) (then _ (c .before .before .before .before .word .ensures .leads) (then-here _ _ (λ _. refl) (then _ (by-skip _ _ _ (c .before .before .skip .ensures))
+    then-here _ _ (λ _. refl) (then _ (size c .word .ensures .leads) (then-here _ _ (λ _. refl) (then _ (by-skip _ _ _ (c .before .before .skip .ensures))
     (then _ (by-check _ _ _ _ (omega arith) (c .before .last-is-zero .ensures) (c .check .ensures)) ends))))
 
 word-requires : tie.Need-word-requires
