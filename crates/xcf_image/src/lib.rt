@@ -116,7 +116,13 @@ pub fn put_image(
 {
     let magic = put_bytes(output, 0, &MAGIC);
     let tag = put_tag(output, magic, new_mode(table, n));
-    let words = [canvas.width, canvas.height, canvas.base, 17, 1];
+    let words = [
+        canvas.width,
+        canvas.height,
+        canvas.base,
+        property_type::COMPRESSION,
+        1,
+    ];
     let compression = put_words(output, tag, &words);
     output[compression] = 1;
     let list = put_words(output, compression + 1, &[property_type::END, 0]);

@@ -74,7 +74,7 @@ encodedSize = 16644
 abbrev pub windowLimit : ℕ
 windowLimit = 24576
 
--- the most bytes of an image's structure, and of all that is written for a drawable
+-- bounds, rounded up, of the bytes of an image's structure and of all that is written for a drawable
 abbrev pub imageLimit : ℕ
 imageLimit = 1100
 

@@ -2,8 +2,8 @@
 ghost use mathlib.Core.Path.{_≡_};
 ghost use Prim.Native.Nat.{_≤_, _<_};
 ghost use lib.ListN.{length};
-ghost use Rattle.xcf_operation.specs.Operation.{headAt, operationOf, operationAt};
-ghost use Rattle.xcf_operation.specs.Parts.{headFor, headRead, HeadInside, dataSize, operationRead, DataInside};
+ghost use Rattle.xcf_operation.specs.Operation.{headAt};
+ghost use Rattle.xcf_operation.specs.Parts.{headRead, HeadInside, dataSize, found, foundAt};
 
 // An opcode with its length bytes: whether the operation is a run or a copy, how many bytes it gives, and where its data starts.
 pub enum HeadRead {
@@ -78,7 +78,7 @@ fn data_size(run: bool, count: usize) -> usize
 // Whether the stream takes `count` more bytes, and then whether the data stands at `body`.
 fn operation_of(window: &[u8], left: usize, run: bool, count: usize, body: usize) -> OperationRead
     requires { ⌜ body ≤ length (now window) ⌝ }
-    ensures { λ r. ⌜ (operationRead (now (window .entry)) r ≡ operationOf (now (window .entry)) left (headFor run count body)) × DataInside (now (window .entry)) r ⌝ }
+    ensures { λ r. ⌜ r ≡ found (now (window .entry)) left run count body ⌝ }
 {
     let size = data_size(run, count);
     let rest = window.len() - body;
@@ -97,7 +97,7 @@ fn operation_of(window: &[u8], left: usize, run: bool, count: usize, body: usize
 }
 
 pub fn operation_at(window: &[u8], at: usize, left: usize) -> OperationRead
-    ensures { λ r. ⌜ (operationRead (now (window .entry)) r ≡ operationAt (now (window .entry)) at left) × DataInside (now (window .entry)) r ⌝ }
+    ensures { λ r. ⌜ r ≡ foundAt (now (window .entry)) at left ⌝ }
 {
     match head_at(window, at) {
         HeadRead::Cut => OperationRead::Short,

@@ -9,6 +9,7 @@ ghost use Rattle.xcf_parse.specs.Drawable.{side, sideLike, layerType, fi
 ghost use Rattle.xcf_parse.specs.Parts.{noFields, noLayer, FieldsLow, LayerLow};
 use crate::hierarchy::pointer;
 use xcf_numbers::refusal;
+use xcf_property::LAYER_LIST;
 use xcf_property::Properties;
 use xcf_table::canvas::side_ok;
 use xcf_table::canvas::type_ok;
@@ -148,7 +149,7 @@ pub fn read_layer(cursor: Cursor, file: &[u8], size: usize, base: u32) -> LayerR
     let width = side(cursor, file);
     let height = side(width.cursor, file);
     let form = layer_type(height.cursor, file, base);
-    let x = read_fields(form.cursor, file, size, 1);
+    let x = read_fields(form.cursor, file, size, LAYER_LIST);
     let mask = x.cursor.pointer(file, size);
     let next = mask.cursor;
     if next.number != 0 {

@@ -13,6 +13,8 @@ ghost use Rattle.xcf_parse.specs.Parts.{fileStart};
 use crate::drawable::RowsRead;
 use crate::drawable::drawable;
 use xcf_numbers::kind;
+use xcf_numbers::limit::CHANNEL_LIMIT;
+use xcf_numbers::limit::LAYER_LIMIT;
 use xcf_numbers::refusal;
 use xcf_parse::image::Head;
 use xcf_parse::image::read_head;
@@ -133,8 +135,8 @@ pub(crate) fn image(file: &[u8], size: usize, table: &mut [u32]) -> ImageRead
 {
     let read = read_head(file);
     let h = read.head;
-    let layers = pointers(read.cursor, file, size, 48);
-    let channels = pointers(layers.cursor, file, size, 32);
+    let layers = pointers(read.cursor, file, size, LAYER_LIMIT);
+    let channels = pointers(layers.cursor, file, size, CHANNEL_LIMIT);
     let c = canvas_of(h);
     let first = drawables(
         channels.cursor,

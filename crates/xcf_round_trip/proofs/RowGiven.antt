@@ -41,7 +41,7 @@ module _ (names : ℕ) (r : Row) (excepted : RowExcepted names r) where
           short = a .short;
           named = a .named;
           list = a .list;
-          tiles = a .tiles;
+          pointers = a .pointers;
           deep = given .range .depth;
         })
 
@@ -73,7 +73,7 @@ module _ (names : ℕ) (r : Row) (excepted : RowExcepted names r) where
           short = a .short;
           named = a .named;
           list = a .list;
-          tiles = a .tiles;
+          pointers = a .pointers;
           deep = omega arith;
         })
 
@@ -101,5 +101,5 @@ canvas-fits r c k y tiles like =
 pub unused-fits : (names : ℕ) (r : Row) → RowExcepted names r → Like r unusedRow → r .name ≡ 0 → allZero (rowNumbers r) ≡ true
 unfolding allZero
 unused-fits names r excepted like unnamed =
-    let e : r ≡ unusedRow = like ∙ rw (unnamed, excepted .list, excepted .tiles) in
+    let e : r ≡ unusedRow = like ∙ rw (unnamed, excepted .list, excepted .pointers) in
     subst (λ (q : Row). allZero (rowNumbers q) ≡ true) (sym e) refl

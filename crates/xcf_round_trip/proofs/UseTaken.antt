@@ -31,7 +31,7 @@ drawable-passes x =
       le-leb _ _ (x .short),
       le-leb _ _ (x .named),
       eq-eqb _ _ (x .list),
-      eq-eqb _ _ (x .tiles),
+      eq-eqb _ _ (x .pointers),
     )
 
 applied-passes : (r : Row) (hasMask : Bool) → (hasMask ≡ false → apply r ≡ 0) → eqb (apply r) 0 || hasMask ≡ true

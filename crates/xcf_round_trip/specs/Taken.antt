@@ -19,7 +19,7 @@ pub record RowExcepted (names : ℕ) (r : Row) : Type 0 where
   pub short : r .namelen ≤ nameLimit
   pub named : r .name + r .namelen ≤ names
   pub list : r .list ≡ 0
-  pub tiles : r .pointers ≡ 0
+  pub pointers : r .pointers ≡ 0
   pub mode : r .mode ≤ modeLimit
   pub form : r .form ≤ writtenTypeLimit
   pub ungrouped : r .flags < Flag.group

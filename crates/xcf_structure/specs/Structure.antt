@@ -12,7 +12,7 @@ use Rattle.xcf_table.specs.declared.Row.{Row}
 use Rattle.xcf_usable.specs.Usable.{isLayer, visible, apply}
 use Rattle.xcf_store.specs.Word.{wordBytes, words, when}
 
--- the most bytes of a drawable's properties, and of its structure
+-- the most bytes of a drawable's properties, and a bound of its structure's
 abbrev pub propertiesLimit : ℕ
 propertiesLimit = 88
 

@@ -27,7 +27,7 @@ pub fn or_zero(test: bool, n: usize) -> usize
 
 fn name_size(name: &[u8]) -> usize
     requires { ⌜ length (now name) ≤ nameLimit ⌝ }
-    ensures { λ r. ⌜ (r ≡ length (nameBytes (now (name .entry)))) × (r ≤ 1029) ⌝ }
+    ensures { λ r. ⌜ (r ≡ length (nameBytes (now (name .entry)))) × (r ≤ nameLimit + 5) ⌝ }
 {
     if name.len() == 0 {
         return 4;

@@ -29,7 +29,7 @@ pub record DrawableFacts (names : ℕ) (r : Row) : Type 0 where
   pub short : r .namelen ≤ nameLimit
   pub named : r .name + r .namelen ≤ names
   pub list : r .list ≡ 0
-  pub tiles : r .pointers ≡ 0
+  pub pointers : r .pointers ≡ 0
   pub deep : (1 ≤ r .depth) × (r .depth ≤ depthLimit)
 
 -- a layer's numbers
@@ -114,7 +114,7 @@ drawable-says names r e deep =
       short = leb-true _ _ (t 4);
       named = leb-true _ _ (t 5);
       list = eqb-true _ _ (t 6);
-      tiles = eqb-true _ _ (t 7);
+      pointers = eqb-true _ _ (t 7);
       deep = deep;
     }
 

@@ -72,7 +72,7 @@ pub fn row_refusal(file: &[u8], numbers: usize, row: Row, compression: u32, size
         return refusal::TOO_LONG;
     }
     if usable(file.len(), row, compression, size) {
-        return 0;
+        return refusal::ACCEPTED;
     }
     refusal::UNUSABLE
 }

@@ -1,8 +1,12 @@
 -- `stream` meets its contract: `StreamGoing` holds at the loop's head, and each operation keeps it or ends the stream.
 use Prim.Native.Nat.{_-_}
+use mathlib.Core.Path.{_≡_}
 use borrow.Author.Needs.{needs}
 use native.Mathlib.Omega.{arith}
 use lib.ListN.{length}
+use Rattle.xcf_operation.specs.Operation.{operationAt}
+use Rattle.xcf_operation.specs.Parts.{operationRead, DataInside}
+use Rattle.xcf_operation.proofs.Found.{operation-read, data-inside}
 use Rattle.xcf_stream.proofs.stream.Statement.{statement}
 use Rattle.xcf_stream.proofs.stream.Tie as tie
 use Rattle.xcf_stream.proofs.Scattering.{mul-part}
@@ -27,11 +31,16 @@ read c = c .before .before
 abbrev put : tie.After-slice-known2 Inv-loop μ-loop → tie.After-run Inv-loop μ-loop
 put c = c .before .before .before .before .before
 
+-- what was found stands for the operation there, and its data lies in the window
+told : (c : tie.After-operation-at Inv-loop μ-loop) → let ws = begin (head c) .args .window .now in
+    (operationRead ws (c .operation-at .result) ≡ operationAt ws (head c .loop .at) (head c .loop .left)) × DataInside ws (c .operation-at .result)
+told c = let e = c .operation-at .ensures in (operation-read _ _ _ e, data-inside _ _ _ e)
+
 -- the operation that gives bytes
 fitting : (c : tie.After-run Inv-loop μ-loop)
     → OperationFits (begin (head (read c)) .args .window .now) (head (read c) .loop .at) (head (read c) .loop .left)
     (c .run .given .0 .0) (c .run .given .0 .1 .0) (c .run .given .0 .1 .1 .0) (c .run .given .0 .1 .1 .1 .0)
-fitting c = fits _ _ _ (read c .operation-at .ensures) (c .run .given .1)
+fitting c = fits _ _ _ (told (read c)) (c .run .given .1)
 
 loop-holds : tie.Need-loop-holds Inv-loop μ-loop
 loop-holds c = search needs
@@ -51,7 +60,7 @@ same-length c = search needs
 returns : tie.Need-returns Inv-loop μ-loop
 returns c =
     let o = c .before .before .before in
-    rw (c .ended .ensures) (going-short (head o .loop .inv) (o .before .loop-test .taken) (o .operation-at .ensures) (c .before .enum-told .given .1))
+    rw (c .ended .ensures) (going-short (head o .loop .inv) (o .before .loop-test .taken) (told o) (c .before .enum-told .given .1))
 
 enum-told-2 : tie.Need-enum-told-2 Inv-loop μ-loop
 enum-told-2 c = search needs
@@ -65,7 +74,7 @@ same-length-2 c = search needs
 returns-2 : tie.Need-returns-2 Inv-loop μ-loop
 returns-2 c =
     let o = c .before .before .before in
-    rw (c .ended2 .ensures) (going-over (head o .loop .inv) (o .before .loop-test .taken) (o .operation-at .ensures) (c .before .enum-told2 .given .1))
+    rw (c .ended2 .ensures) (going-over (head o .loop .inv) (o .before .loop-test .taken) (told o) (c .before .enum-told2 .given .1))
 
 enum-known-run : tie.Need-enum-known-run Inv-loop μ-loop
 enum-known-run c = search needs
@@ -89,7 +98,7 @@ loop-again : tie.Need-loop-again Inv-loop μ-loop
 loop-again c =
     let o = read (put c) in
     rw (c .before .before .put-given .ensures .0, c .before .before .put-given .ensures .1)
-    (going-given (head o .loop .inv) (o .before .loop-test .taken) (o .operation-at .ensures) (put c .run .given .1))
+    (going-given (head o .loop .inv) (o .before .loop-test .taken) (told o) (put c .run .given .1))
 
 ended-requires-3 : tie.Need-ended-requires-3 Inv-loop μ-loop
 ended-requires-3 c κs = search needs
