@@ -150,11 +150,8 @@ impl Cursor {
         let place = n.cursor.at;
         let size = n.value as usize;
         let end = n.cursor.skip(file, size);
-        let next = end.check(
-            last_is_zero(file, place, size),
-            refusal::UNENDED_STRING,
-            self.at,
-        );
+        let ended = last_is_zero(file, place, size);
+        let next = end.check(ended, refusal::UNENDED_STRING, self.at);
         if next.number != 0 {
             return NameRead {
                 name: Name {
