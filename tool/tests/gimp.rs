@@ -1,4 +1,4 @@
-//! Every command on every file that GIMP made, in tests/data: what `xcf list`
+//! Every command on every file that GIMP made, in compare/data: what `xcf list`
 //! says of a file decides what the others show, and the pixels are those that
 //! GIMP has in it.
 
@@ -33,7 +33,7 @@ const BANDS: [&str; 6] = [
 ];
 
 fn data() -> PathBuf {
-    Path::new(env!("CARGO_MANIFEST_DIR")).join("../tests/data")
+    Path::new(env!("CARGO_MANIFEST_DIR")).join("../compare/data")
 }
 
 /// A number of things.
