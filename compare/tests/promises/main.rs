@@ -96,3 +96,14 @@ fn quoted_names_are_in_the_sources() {
     }
     assert!(unknown.is_empty(), "{unknown:#?}");
 }
+
+/// A definition stands in the file that is quoted beside it.
+#[test]
+fn quoted_definitions_stand_in_their_files() {
+    let beside = page::beside_files();
+    assert!(beside.len() >= 40, "only {}", beside.len());
+    for (of_crate, name, file) in beside {
+        let words = sources::words_in(&of_crate, &file);
+        assert!(words.contains(&name), "{name} is not in {file}");
+    }
+}

@@ -89,3 +89,24 @@ pub fn quotations() -> Vec<(String, String)> {
     }
     all
 }
+
+/// Crate, name and file, wherever a name stands in front of its file in brackets,
+/// or behind its file and a colon.
+pub fn beside_files() -> Vec<(String, String, String)> {
+    let mut all = Vec::new();
+    for (of_crate, line) in lines() {
+        let parts: Vec<&str> = line.split('`').collect();
+        for at in (1..parts.len().saturating_sub(3)).step_by(2) {
+            let (left, between, right) = (parts[at], parts[at + 1], parts[at + 2]);
+            let (name, file) = match between {
+                " (" => (left, right),
+                ": " => (right, left),
+                _ => continue,
+            };
+            if file.ends_with(".antt") {
+                all.push((of_crate.clone(), name.to_string(), file.to_string()));
+            }
+        }
+    }
+    all
+}

@@ -207,6 +207,13 @@ fn code(line: &str) -> &str {
     &line[..comment.unwrap_or(line.len())]
 }
 
+/// The names in a source's code.
+fn names(source: &str) -> BTreeSet<String> {
+    let tokens = source.lines().flat_map(|line| tokens(code(line)));
+    let parts = tokens.flat_map(|token| token.split(['.', '&', '|', '<', '>', '!', '·']));
+    parts.map(str::to_string).collect()
+}
+
 /// All names in the sources' code, and those of crates and edits.
 pub fn words() -> BTreeSet<String> {
     let mut words = BTreeSet::new();
@@ -215,18 +222,29 @@ pub fn words() -> BTreeSet<String> {
     }
     for (file, source) in sources(".antt").into_iter().chain(sources(".rt")) {
         words.insert(file.split('/').next().expect("a crate").to_string());
-        for token in source.lines().flat_map(|line| tokens(code(line))) {
-            let parts = token.split(['.', '&', '|', '<', '>', '!', '·']);
-            words.extend(parts.map(str::to_string));
-        }
+        words.extend(names(&source));
     }
     words
 }
 
-/// A path from the repository's root, from the folder of crates, or from a
-/// crate's own.
-pub fn exists(of_crate: &str, path: &str) -> bool {
+/// The folders that a quoted path may start from: the repository's root, that of
+/// crates, or a crate's own.
+fn folders(of_crate: &str) -> [PathBuf; 3] {
     let crates = folder::of_crate("");
-    let folders = [crates.join(".."), crates.join(of_crate), crates];
-    folders.iter().any(|folder| folder.join(path).exists())
+    [crates.join(".."), crates.join(of_crate), crates]
+}
+
+/// A quoted path leads somewhere.
+pub fn exists(of_crate: &str, path: &str) -> bool {
+    folders(of_crate)
+        .iter()
+        .any(|folder| folder.join(path).exists())
+}
+
+/// The names in the code of a quoted file.
+pub fn words_in(of_crate: &str, path: &str) -> BTreeSet<String> {
+    let found = folders(of_crate).map(|folder| fs::read_to_string(folder.join(path)));
+    let source = found.into_iter().find_map(Result::ok);
+    let source = source.unwrap_or_else(|| panic!("{path} under {of_crate}"));
+    names(&source)
 }
