@@ -15,24 +15,24 @@ struct Definition {
 }
 
 impl Definition {
-    /// Its type, or nothing for a record or a data type.
-    fn signature(&self) -> Option<&str> {
-        let (head, rest) = self.text.split_once(" : ")?;
-        let is_type = head
-            .split(' ')
-            .any(|word| word == "record" || word == "data");
-        let end = rest.find(&format!(" {} ", self.name))?;
-        (!is_type).then_some(&rest[..end])
+    /// What stands between its name's colon and its first clause.
+    fn signature(&self) -> &str {
+        let (_, rest) = self.text.split_once(" : ").expect("a type");
+        let end = rest.find(&format!(" {} ", self.name));
+        &rest[..end.unwrap_or_else(|| panic!("{}: {} has no clause", self.file, self.name))]
     }
 
     /// It gives back no number, whatever it names: a statement, which is a type,
     /// or a list of numbers or examples.
     fn is_exempt(&self) -> bool {
-        self.signature().is_none_or(|signature| {
-            let result = signature.rsplit(" → ").next().expect("a result");
-            let is_list = !signature.contains('→') && signature.starts_with("List ");
-            is_list || result.starts_with("Type ")
-        })
+        let mut head = self.text.split(' ').take_while(|word| *word != self.name);
+        if head.any(|word| word == "record" || word == "data") {
+            return true;
+        }
+        let signature = self.signature();
+        let result = signature.rsplit(" → ").next().expect("a result");
+        let is_list = !signature.contains('→') && signature.starts_with("List ");
+        is_list || result.starts_with("Type ")
     }
 
     /// The numbers that it gives, by name. An answer whose number and place are
