@@ -1,4 +1,4 @@
--- Demand 3: damage inside the windows of some tiles changes nothing outside them. A pointer has `size` bytes.
+-- RULES, "Isolation": damage inside the windows of some tiles changes nothing outside them. A pointer has `size` bytes.
 use Prim.Native.Nat.{ℕ, _*_, _≤_, _<_}
 use mathlib.Core.Path.{_≡_}
 use mathlib.Core.List.{List}

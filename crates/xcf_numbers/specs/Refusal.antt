@@ -1,4 +1,4 @@
--- The numbers given back: document 01's table of refusals.
+-- The numbers of refusals (RULES, "Numbers").
 use Prim.Native.Nat.{ℕ}
 
 abbrev pub accepted : ℕ

@@ -1,4 +1,4 @@
-// The numbers given back: document 01's table of refusals. Those of the walk are as wide as a cursor's number, the others as an
+// The numbers of refusals (RULES, "Numbers"). Those of the walk are as wide as a cursor's number, the others as an
 // answer's.
 pub const ACCEPTED: u64 = 0;
 

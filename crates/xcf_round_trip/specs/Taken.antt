@@ -1,5 +1,5 @@
--- The rows that the writer takes are those that a reader could have given, less what document 01 excepts: of a table with a reader's
--- rows, and with what is excepted, no row is bad; and where no row is bad, what is excepted holds.
+-- The rows that the writer takes are those that a reader could have given, less what is excepted (RULES, "Usable rows"): of a table
+-- with a reader's rows, and with what is excepted, no row is bad; and where no row is bad, what is excepted holds.
 use Prim.Native.Nat.{ℕ, _+_, _≤_, _<_}
 use mathlib.Core.Path.{_≡_}
 use mathlib.Core.List.{List}
