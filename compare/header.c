@@ -1,5 +1,5 @@
-/* The header as a C program sees it: document 01's tile of depth 2 is decoded, what was encoded decodes to itself, and
- * document 01's whole file is read and listed, its channel decoded, and the file written. */
+/* The header as a C program sees it: the tile of depth 2 of RULES, "Examples" is decoded, what was encoded decodes to itself,
+ * and the whole file there is read and listed, its channel decoded, and the file written. */
 #include "xcf.h"
 
 #include <stddef.h>

@@ -98,7 +98,7 @@ fn field_at(byte: usize) -> usize {
     *before.max().expect("the first is 0")
 }
 
-/// Document 01's limit of 32,768 bytes is that of the small program.
+/// The limit of 32,768 bytes is the small program's (RULES, "Listing").
 #[test]
 fn a_file_over_32768_bytes_is_listed() {
     let folder = Folder::with_layer("large.xcf", &Pam::noise(300, 200, "red green blue"));

@@ -1,4 +1,4 @@
--- Tiles are 64 by 64, row by row, the last column and row smaller.
+-- The grid of a drawable's tiles (RULES, "Tiles").
 use Prim.Native.Nat.{ℕ, _+_, _-_, _*_, _/_, _%_, min}
 use Rattle.xcf_numbers.specs.Limit.{tileSide}
 

@@ -17,7 +17,7 @@ use Rattle.xcf_structure.specs.Structure.{listBytes, Property, worded}
 abbrev pub isNewMode : Row → Bool
 isNewMode r = leb newMode (r .mode)
 
--- the version of rows: 2 if a mode is 19, 20 or 21, else 0
+-- the version of rows: 2 where one has such a mode, else 0
 unfoldable pub versionOf : List Row → ℕ
 versionOf [] = 0
 versionOf (r ∷ rs) = cond (isNewMode r) 2 (versionOf rs)

@@ -1,6 +1,6 @@
--- Demand 3: damage inside the windows of some tiles changes nothing outside them. The structure bytes are the same, so the file is
--- read as before, with the same pointers and windows; a tile that is not chosen has the same window, hence the same mark and pixels;
--- a chosen one is what its new window gives.
+-- RULES, "Isolation": damage inside the windows of some tiles changes nothing outside them. The structure bytes are the same, so the
+-- file is read as before, with the same pointers and windows; a tile that is not chosen has the same window, hence the same mark and
+-- pixels; a chosen one is what its new window gives.
 -- Assumes nothing.
 use Prim.Native.Nat.{ℕ, _<_}
 use mathlib.Core.Path.{_≡_, refl, sym, ap, _∙_}

@@ -1,4 +1,4 @@
--- Demand 3: damage inside the windows of some tiles changes nothing outside them. A pointer has `size` bytes.
+-- RULES, "Isolation": damage inside the windows of some tiles changes nothing outside them. A pointer has `size` bytes.
 use Prim.Native.Nat.{ℕ, _*_, _≤_, _<_}
 use mathlib.Core.Path.{_≡_}
 use mathlib.Core.List.{List}
@@ -34,7 +34,7 @@ pub record GoodWhenValid (window : List ℕ) (w h depth compression mark : ℕ) 
   pub valid : (ps : List ℕ) → BeginsWith window w h depth compression ps → (mark ≡ 0) × (pixels ≡ ps)
   pub marked : (mark ≡ 0 → ⊥) → pixels ≡ replicate (w * h * depth) 0
 
--- tile t of row k is a tile of the file: each row has its own tiles, also where rows share pointers
+-- tile t of row k is a tile of the file: rows have their own tiles even if they share pointers
 pub record IsTile (x : Reading) (k t : ℕ) : Type 0 where
   pub row : k < x .answer .rows
   pub tile : t < rowOf x k .count
@@ -68,8 +68,8 @@ pub record RowIsolated (size : ℕ) (g : List ℕ) (r : Row) (compression : ℕ)
       → GoodWhenValid (window size g r t) (tileWidth (r .width) t) (tileHeight (r .width) (r .height) t) (r .depth) compression
       (getD (e .marks) t 0) (shown (r .width) (r .height) (r .depth) t (e .pixels))
 
--- g is read as f was, and its rows are isolated: the decoder is lent each file, what the reader gave for it, and buffers of the
--- right length, whatever these held before
+-- g is read as f was, and its rows are isolated: the decoder is lent each file, what the reader gave for it, and buffers that fit,
+-- with any content
 pub record Isolated (f g lent : List ℕ) (Chosen : ℕ → ℕ → Type 0) : Type 0 where
   pub read : reading g lent ≡ reading f lent
   pub rows : (k : ℕ) → k < reading f lent .answer .rows → (pixels marks pixels' marks' : List ℕ)

@@ -31,7 +31,7 @@ linesOf file x =
     (canvasLine (x .answer) ++ rowLines file (x .table) (x .answer .compression) 0 (x .answer .rows))
     (refusedLine (x .answer .number) (x .answer .place))
 
--- the limit of a printed listing: "Input over 32,768 bytes prints `refused 15 at 0`."
+-- the most bytes of a file whose listing is printed (RULES, "Listing")
 abbrev pub listLimit : ℕ
 listLimit = 32768
 

@@ -8,6 +8,6 @@ good = 0
 abbrev pub short : ℕ
 short = 20
 
--- an operation runs over the end of its stream
+-- an operation gives more than its stream still takes
 abbrev pub overrun : ℕ
 overrun = 21

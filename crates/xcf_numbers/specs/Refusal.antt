@@ -1,14 +1,14 @@
--- The numbers given back: document 01's table of refusals.
+-- The numbers of refusals (RULES, "Numbers").
 use Prim.Native.Nat.{ℕ}
 
 abbrev pub accepted : ℕ
 accepted = 0
 
--- a field or payload runs past the file's end
+-- a field, string or payload does not lie in the file whole
 abbrev pub pastEnd : ℕ
 pastEnd = 1
 
--- the first 9 bytes are not "gimp xcf "
+-- the file does not begin with "gimp xcf "
 abbrev pub notXcf : ℕ
 notXcf = 2
 
@@ -40,7 +40,7 @@ tooMany = 8
 abbrev pub noPointer : ℕ
 noPointer = 9
 
--- a type, size or depth disagrees with its owner
+-- a type, side or depth is not what its owner says
 abbrev pub disagrees : ℕ
 disagrees = 10
 
@@ -68,10 +68,10 @@ tooLong = 15
 abbrev pub floating : ℕ
 floating = 16
 
--- a row given to the writer is unusable
+-- a row that cannot be written
 abbrev pub badRow : ℕ
 badRow = 17
 
--- the file would exceed the lent output or the file limit
+-- what is to be written exceeds the lent output, or a file the limit
 abbrev pub noRoom : ℕ
 noRoom = 18

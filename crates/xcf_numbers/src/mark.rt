@@ -4,5 +4,5 @@ pub const GOOD: u64 = 0;
 // The window ends too soon.
 pub const SHORT: u64 = 20;
 
-// An operation runs over the end of its stream.
+// An operation gives more than its stream still takes.
 pub const OVERRUN: u64 = 21;

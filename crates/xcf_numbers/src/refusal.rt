@@ -1,11 +1,11 @@
-// The numbers given back: document 01's table of refusals. Those of the walk are as wide as a cursor's number, the others as an
+// The numbers of refusals (RULES, "Numbers"). Those of the walk are as wide as a cursor's number, the others as an
 // answer's.
 pub const ACCEPTED: u64 = 0;
 
-// A field or payload runs past the file's end.
+// A field, string or payload does not lie in the file whole.
 pub const PAST_END: u32 = 1;
 
-// The first 9 bytes are not "gimp xcf ".
+// The file does not begin with "gimp xcf ".
 pub const NOT_XCF: u32 = 2;
 
 // The version's tag is not known.
@@ -29,7 +29,7 @@ pub const TOO_MANY: u32 = 8;
 // A hierarchy or first level pointer is 0.
 pub const NO_POINTER: u32 = 9;
 
-// A type, size or depth disagrees with its owner.
+// A type, side or depth is not what its owner says.
 pub const DISAGREES: u32 = 10;
 
 // A lent buffer has the wrong length.
@@ -50,8 +50,8 @@ pub const TOO_LONG: u64 = 15;
 // A layer is a floating selection.
 pub const FLOATING: u32 = 16;
 
-// A row given to the writer is unusable.
+// A row that cannot be written.
 pub const BAD_ROW: u64 = 17;
 
-// The file would exceed the lent output or the file limit.
+// What is to be written exceeds the lent output, or a file the limit.
 pub const NO_ROOM: u64 = 18;

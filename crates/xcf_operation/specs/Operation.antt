@@ -17,7 +17,7 @@ pub data Head : Type 0 where
 abbrev pub pair : List ℕ → ℕ → ℕ
 pair ws at = getD ws at 0 * 256 + getD ws (at + 1) 0
 
--- opcode n up to 126: a run of n+1; 127, p, q: a run of p·256+q; 128, p, q: p·256+q bytes copied; above: 256−n bytes copied
+-- the table of operations in RULES, "Tiles"
 unfoldable pub headOf : List ℕ → ℕ → ℕ → Head
 headOf ws at n =
     cond (ltb n 127) (runHead (n + 1) (at + 1))

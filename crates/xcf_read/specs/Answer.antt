@@ -39,7 +39,7 @@ readingOf (got x q) = record {
 }
 readingOf (refused n p) = record { answer = refusal n p; table = tableOf noRows }
 
--- 11, then 15, both leaving the table as lent; then the walk from place 0
+-- a table of the wrong length, then a file over the limit, the table as lent; then the walk from place 0
 unfoldable pub reading : List ℕ → List ℕ → Reading
 reading file table =
     cond (eqb (length table) tableSize)

@@ -53,7 +53,6 @@ image size = do
   all ← drawables (canvasChannelRows size (canvasOf h)) channels first
   done (record { head = h; rows = all })
 
--- document 01's structure byte: one that the walk of an accepted file passes over; of a refused file, one passed over before the
--- fault
+-- a structure byte (RULES, "The walk"); of a refused file, one that is passed over before the fault
 unfoldable pub structureByte : ℕ → List ℕ → ℕ → Type 0
 structureByte size f i = PassedOver (image size) f 0 i

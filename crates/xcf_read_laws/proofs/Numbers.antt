@@ -1,4 +1,4 @@
--- The reader's refusals have the numbers of document 01: structure by structure, from the numbers of its fields.
+-- The numbers of the reader's refusals (RULES, "Numbers"): structure by structure, from the numbers of its fields.
 -- Assumes nothing.
 use Prim.Native.Nat.{ℕ, zero, suc, _≤_}
 use mathlib.Core.Path.{_≡_, refl}

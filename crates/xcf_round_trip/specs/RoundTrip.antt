@@ -1,5 +1,5 @@
--- Demand 2's second half: what the writer writes reads back as the same rows, names and pixels, with no tile marked; only the rows'
--- places differ.
+-- RULES, "Exactness", of the writer: what it writes reads back as the same rows, names and pixels, with no tile marked; only the
+-- rows' places differ.
 use Prim.Native.Nat.{ℕ, _≤_, _<_}
 use mathlib.Core.Path.{_≡_}
 use mathlib.Core.List.{List}

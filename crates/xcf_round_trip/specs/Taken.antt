@@ -1,5 +1,5 @@
--- The rows that the writer takes are those that a reader could have given, less what document 01 excepts: of a table with a reader's
--- rows, and with what is excepted, no row is bad; and where no row is bad, what is excepted holds.
+-- The rows that the writer takes are those that a reader could have given, less what is excepted (RULES, "Usable rows"): of a table
+-- with a reader's rows, and with what is excepted, no row is bad; and where no row is bad, what is excepted holds.
 use Prim.Native.Nat.{ℕ, _+_, _≤_, _<_}
 use mathlib.Core.Path.{_≡_}
 use mathlib.Core.List.{List}
@@ -13,8 +13,8 @@ use Rattle.xcf_read.specs.Answer.{reading}
 use Rattle.xcf_usable.specs.Usable.{countBefore, isActiveLayer, isActiveChannel, isSelection, badRow}
 use Rattle.xcf_round_trip.specs.RoundTrip.{withPlaces}
 
--- what is asked of each row: 6 at most 1,024, 5 plus 6 at most the number of lent name bytes, 7 and 8 zero, mode at most 21, type at
--- most 3, no group flag
+-- what is asked of each row: a short name among so many lent bytes, no places in a file, no mode and no type that is not written, no
+-- group flag
 pub record RowExcepted (names : ℕ) (r : Row) : Type 0 where
   pub short : r .namelen ≤ nameLimit
   pub named : r .name + r .namelen ≤ names
@@ -24,7 +24,7 @@ pub record RowExcepted (names : ℕ) (r : Row) : Type 0 where
   pub form : r .form ≤ writtenTypeLimit
   pub ungrouped : r .flags < Flag.group
 
--- and of all: selection on at most one channel or mask, active on at most one layer and one channel or mask
+-- and of all together: one selection at most, one active layer, one active mask or channel
 pub record RowsExcepted (table : List ℕ) : Type 0 where
   pub selection : countBefore isSelection table tableRows ≤ 1
   pub layer : countBefore isActiveLayer table tableRows ≤ 1

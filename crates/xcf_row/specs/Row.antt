@@ -13,11 +13,11 @@ use Rattle.xcf_parse.specs.declared.drawable.Layer.{Layer}
 use Rattle.xcf_parse.specs.declared.drawable.Owner.{Owner}
 use Rattle.xcf_table.specs.Canvas.{depthOf}
 
--- flags: 1 visible, 2 apply mask, 4 selection, 8 active, 16 group
+-- a flag, where a property's value is not 0
 unfoldable pub flag : ℕ → ℕ → ℕ
 flag v bit = cond (eqb v 0) 0 bit
 
--- 2 and 29 matter in layers, 3 and 4 in channels and masks; apply mask is always 0 without a mask
+-- the flags that a layer can have; without a mask it applies none
 unfoldable pub layerFlags : Properties → ℕ → ℕ
 layerFlags p mask =
     flag (p .visible) Flag.visible + flag (cond (eqb mask 0) 0 (p .apply)) Flag.apply + flag (p .active) Flag.active + flag (p .group) Flag.group

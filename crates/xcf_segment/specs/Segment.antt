@@ -1,5 +1,4 @@
--- How a stream is written: at a place where three or more equal bytes start, a run of them all; otherwise a copy up to the
--- next such place or the end. Up to 127 bytes are a short operation, more a long one.
+-- How a stream is written (RULES, "Encoding"): its segments are runs and copies, each one operation.
 use Prim.Native.Nat.{ℕ, zero, suc, _-_, _/_, _%_}
 use mathlib.Core.List.{List, [], _∷_, _++_, flatMap}
 use mathlib.Core.Bool.{cond}
@@ -16,7 +15,7 @@ unfoldable pub equalBytes : List ℕ → ℕ
 equalBytes [] = 0
 equalBytes (x ∷ xs) = suc (leading x xs)
 
--- how many bytes come before the next place where three or more equal bytes start, or the end
+-- how many bytes come before the next run of at least three, or the end
 unfoldable pub copiedBytes : List ℕ → ℕ
 copiedBytes [] = 0
 copiedBytes (x ∷ xs) = cond (leb 3 (equalBytes (x ∷ xs))) 0 (suc (copiedBytes xs))

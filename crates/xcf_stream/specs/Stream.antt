@@ -7,8 +7,8 @@ use lib.Dec.{ltb}
 use Rattle.xcf_numbers.specs.Mark
 use Rattle.xcf_operation.specs.Operation.{Operation, gives, short, over, operationAt}
 
--- mark 0 and the place behind the stream, or the mark and place of the operation that fails; the number of operations
--- carried out in full, and their bytes
+-- mark 0 and the place behind the stream, or the mark and place of the operation that fails; how many operations were carried
+-- out in full, and their bytes
 pub record Stream : Type 0 where
   pub mark : ℕ
   pub at : ℕ

@@ -38,7 +38,7 @@ listBytes = flatMap propertyBytes
 abbrev pub worded : ℕ → List ℕ → Property
 worded kind ns = record { kind = kind; payload = words ns }
 
--- a layer's: 2 if active, 6, 8, 11 if it has a mask, 7, 15, 0; a channel's and a mask's: 4 if selection, 3 if active, 6, 8, 0
+-- a drawable's properties, each where it is due (RULES, "Written files"); a usable layer is never the selection
 unfoldable pub drawableProperties : Row → Bool → List Property
 drawableProperties r hasMask =
     when (flagSet (r .flags) Flag.selection) (worded PropertyType.selection [] ∷ [])

@@ -1,4 +1,4 @@
--- The example file of document 01 is read: the rules at its bytes are computed.
+-- The example file (RULES, "Examples") is read: the rules at its bytes are computed.
 -- Assumes nothing.
 use mathlib.Core.Path.{_≡_, refl}
 use native.Mathlib.Omega.{arith}

@@ -1,4 +1,4 @@
--- The example file of document 01 is written: the tests of its table and its bytes are computed.
+-- The example file (RULES, "Examples") is written: the tests of its table and its bytes are computed.
 -- Assumes nothing.
 use mathlib.Core.Path.{_≡_, refl}
 use mathlib.Core.List.{[], _∷_, flatMap, flatten}

@@ -1,4 +1,4 @@
--- The whole file of document 01: 143 bytes, a canvas of one grey pixel, and a channel "s", visible, of one pixel.
+-- The example file (RULES, "Examples"): 143 bytes, a canvas of one grey pixel, and a channel "s", visible, of one pixel.
 use Prim.Native.Nat.{ℕ, _-_}
 use mathlib.Core.List.{List, [], _∷_, _++_}
 use lib.ListN.{replicate}

@@ -1,4 +1,4 @@
--- The worked examples of document 01, "What is compared", as one table under one statement.
+-- The worked examples (RULES, "Examples") in a table, with what it means that they hold.
 use mathlib.Core.Path.{_≡_}
 use mathlib.Core.List.{List, [], _∷_}
 use Prim.Native.Nat.{ℕ, _-_}

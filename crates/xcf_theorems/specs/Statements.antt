@@ -33,7 +33,7 @@ use Rattle.xcf_theorems.specs.DamagedExample.{DamagedExample}
 use Rattle.xcf_theorems.specs.ExampleFile.{exampleFile, exampleRow, exampleTable}
 use Rattle.xcf_theorems.specs.Examples.{table, All}
 
--- The worked examples of document 01 hold.
+-- The worked examples hold (RULES, "Examples").
 abbrev pub ExamplesHold : Type 0
 ExamplesHold = All table
 
@@ -51,7 +51,7 @@ StructureBytesDecide =
     → ((i : ℕ) → structureByte pointerSize file i → getD file i 0 ≡ getD other i 0)
     → reading file table ≡ reading other table
 
--- A refusal of the walk has a number of document 01.
+-- A refusal of the walk has one of the reader's numbers (RULES, "Numbers").
 abbrev pub RefusalsAreListed : Type 0
 RefusalsAreListed = (file : List ℕ) (n p : ℕ) → refused n p ≡ run (image pointerSize) file 0 → listed refusals n ≡ true
 
@@ -62,7 +62,7 @@ AcceptedWithoutFault =
     → (reading file table .answer .number ≡ 0 → (x : Image) × (q : ℕ) × (got x q ≡ run (image pointerSize) file 0))
     × ((x : Image) (q : ℕ) → got x q ≡ run (image pointerSize) file 0 → reading file table .answer .number ≡ 0)
 
--- The example file of document 01 is accepted with its canvas and its row.
+-- The example file is accepted with its canvas and its row.
 abbrev pub ExampleFileIsRead : Type 0
 ExampleFileIsRead =
     (table : List ℕ) → length table ≡ tableSize
@@ -72,16 +72,17 @@ ExampleFileIsRead =
       table = exampleRow ++ replicate (tableSize - rowSize) 0;
     }
 
--- Demand 2's second half: what the writer writes reads back as the same rows, names and pixels, with no tile marked; only the rows'
--- places differ. One claim over every input that the writer accepts, in full in `xcf_round_trip/specs/RoundTrip.antt`.
+-- RULES, "Exactness", of the writer: what it writes reads back as the same rows, names and pixels, with no tile marked; only the
+-- rows' places differ. One claim over every input that the writer accepts, in full in `xcf_round_trip/specs/RoundTrip.antt`.
 abbrev pub WrittenReadsBack : Type 0
 WrittenReadsBack = RoundTrip
 
--- And no row that a reader gave is bad for the writer, but for what document 01 excepts; in full in `xcf_round_trip/specs/Taken.antt`.
+-- And no row that a reader gave is bad for the writer, but for what RULES, "Usable rows" adds; in full in
+-- `xcf_round_trip/specs/Taken.antt`.
 abbrev pub GivenRowsAreTaken : Type 0
 GivenRowsAreTaken = GivenIsTaken
 
--- The other way round, where no row is bad, all that document 01 excepts holds of them.
+-- The other way round, where no row is bad, all that is added there holds of them.
 abbrev pub TakenRowsAreExcepted : Type 0
 TakenRowsAreExcepted = TakenIsExcepted
 
@@ -102,8 +103,8 @@ abbrev pub ListerRefusalsAreListed : Type 0
 ListerRefusalsAreListed =
     (limit : ℕ) (file table : List ℕ) (room : ℕ) → listed listerNumbers (listAnswer limit file table room .number) ≡ true
 
--- Demand 3: damage inside the windows of some tiles changes nothing outside them. One claim over all rows and tiles of any accepted
--- file, in full in `xcf_isolation/specs/Isolation.antt`.
+-- RULES, "Isolation": damage inside the windows of some tiles changes nothing outside them. One claim over all rows and tiles of any
+-- accepted file, in full in `xcf_isolation/specs/Isolation.antt`.
 abbrev pub DamageIsIsolated : Type 1
 DamageIsIsolated = Isolation
 

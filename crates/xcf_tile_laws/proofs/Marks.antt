@@ -1,4 +1,4 @@
--- The marks of tiles: 0 good, 20 the window ends too soon, 21 an operation runs over the end of its stream. From the operations up.
+-- The marks of tiles are 0, 20 and 21: from the operations up.
 -- Assumes nothing.
 use Prim.Native.Nat.{ℕ, zero, suc, _*_, _-_}
 use mathlib.Core.Path.{_≡_, refl}

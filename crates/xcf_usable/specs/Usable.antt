@@ -47,7 +47,7 @@ layerFlagsOk r = eqb (r .flags) (visible r + Flag.apply * apply r + Flag.active 
 abbrev pub channelFlagsOk : Row → Bool
 channelFlagsOk r = eqb (r .flags) (visible r + Flag.selection * selection r + Flag.active * active r)
 
--- active on at most one layer; active and selection on at most one channel or mask
+-- an active layer; an active mask or channel; the selection
 abbrev pub isActiveLayer : Row → Bool
 isActiveLayer r = isLayer r && flagSet (r .flags) Flag.active
 
@@ -79,7 +79,7 @@ seenAt table k = record {
   row = rowBefore table k;
 }
 
--- row k of a table has a mask: the next row's kind is 2
+-- row k of a table has a mask: the row behind it is one
 unfoldable pub masked : List ℕ → ℕ → Bool
 masked table k = ltb k tableRows && isMask (rowAt table (k + 1))
 

@@ -77,7 +77,7 @@ abbrev pub onward : {S A : Type 0} → (S → Walk A) → Turn S A → Walk A
 onward go (more s) = go s
 onward go (last a) = done a
 
--- so many turns at most; running out of them is a refusal 0, which no document lists and no loop below comes to
+-- so many turns at most; running out of them is a refusal 0, which is no number of a refusal, and no loop below comes to it
 unfoldable pub turns : {S A : Type 0} → ℕ → (S → Walk (Turn S A)) → S → Walk A
 turns zero body s = refuse 0 0
 turns (suc n) body s = body s >>= onward (turns n body)

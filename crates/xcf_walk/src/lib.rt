@@ -1,3 +1,3 @@
-// A file read front to back from one moving place: words, strings and property lists.
+// A file read forward by a cursor: words, strings and property lists.
 pub mod cursor;
 mod property;

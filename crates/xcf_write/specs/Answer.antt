@@ -51,7 +51,7 @@ inputRefusal c table names pixels =
     (answered Refusal.badSide widthPlace 0))
     (answered Refusal.wrongBuffer 0 0)
 
--- then 18 where the file would exceed the lent output or the limit
+-- then 18 where the file is longer than the lent output or the limit
 unfoldable pub writeAnswer : WriteAnswer → ℕ → ℕ → WriteAnswer
 writeAnswer refusal size room =
     cond (eqb (refusal .number) 0)
