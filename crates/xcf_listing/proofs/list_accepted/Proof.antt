@@ -35,9 +35,10 @@ returns : tie.Need-returns
 returns c =
     let rows = c .before .before in
     let lines = canvas (rows .before) in
-    let few = begin lines .pre .1 in
-    (ap (λ m. listAnswer 0 0 m (rows .put-rows .result .end)) (rows .put-rows .ensures .1),
-    within-more _ (omega (arith, few)) (within-append (lines .put-canvas .ensures) (rows .put-rows .ensures .0)))
+    let few = begin lines .pre .1 in (
+      ap (λ m. listAnswer 0 0 m (rows .put-rows .result .end)) (rows .put-rows .ensures .1),
+      within-more _ (omega (arith, few)) (within-append (lines .put-canvas .ensures) (rows .put-rows .ensures .0)),
+    )
 
 pub list-accepted-spec : {M : Type 1} → statement M
 list-accepted-spec =
