@@ -13,7 +13,7 @@ _Static_assert(sizeof(xcf_decode_answer) == 24, "three numbers of 64 bits");
 _Static_assert(offsetof(xcf_decode_answer, number) == 0, "the number comes first");
 _Static_assert(offsetof(xcf_decode_answer, place) == 8, "the place comes second");
 _Static_assert(offsetof(xcf_decode_answer, marked) == 16, "the count comes last");
-_Static_assert(sizeof(xcf_list_answer) == 32, "four numbers of 64 bits");
+_Static_assert(sizeof(xcf_list_answer) == 48, "six numbers of 64 bits");
 _Static_assert(sizeof(xcf_write_answer) == 24, "three numbers of 64 bits");
 _Static_assert(offsetof(xcf_write_answer, number) == 0, "the number comes first");
 _Static_assert(offsetof(xcf_write_answer, place) == 8, "the place comes second");
@@ -83,13 +83,13 @@ static int reading_fails(void) {
     return 0;
 }
 
-static int lists(size_t file_length, uint64_t number, uint64_t place, uint64_t marked, const char *listing) {
+static int lists(size_t file_length, uint64_t refused, uint64_t at, uint64_t marked, const char *listing) {
     static uint32_t table[XCF_TABLE_LENGTH];
     static uint8_t text[XCF_TEXT_LENGTH];
     memset(text, 0xaa, sizeof text);
     xcf_list_answer l = xcf_list(file, file_length, table, XCF_TABLE_LENGTH, text, sizeof text);
-    return l.number == number && l.place == place && l.marked == marked && l.length == strlen(listing) &&
-           memcmp(text, listing, l.length) == 0 && text[l.length] == 0xaa;
+    return l.number == 0 && l.place == 0 && l.refused == refused && l.at == at && l.marked == marked &&
+           l.length == strlen(listing) && memcmp(text, listing, l.length) == 0 && text[l.length] == 0xaa;
 }
 
 static int listing_fails(void) {
@@ -106,8 +106,9 @@ static int listing_fails(void) {
     uint32_t table[1] = {7};
     uint8_t text[1] = {7};
     xcf_list_answer l = xcf_list(file, sizeof file, table, 1, text, 1);
-    if (l.number != 11 || l.place != 0 || l.marked != 0 || l.length != 0 || table[0] != 7 || text[0] != 7)
-        return fails("the refusal of a short text by xcf_list");
+    if (l.number != 11 || l.place != 0 || l.refused != 0 || l.at != 0 || l.marked != 0 || l.length != 0 || table[0] != 7 ||
+        text[0] != 7)
+        return fails("the refusal of a short table by xcf_list");
     return 0;
 }
 

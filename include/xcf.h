@@ -97,19 +97,22 @@ typedef struct {
  * else its own. */
 xcf_read_answer xcf_read(const uint8_t *file, size_t file_length, uint32_t *table, size_t table_length);
 
-/* number and place are those that refuse the file, as in xcf_read_answer; marked is how many tiles of all rows are marked, and
- * length how many bytes the listing has. */
+/* number is the call's own refusal, an 11 at place 0, beside which all else is 0. refused and at are the file's verdict, the
+ * number and place of xcf_read_answer; marked is how many tiles of all rows are marked, and length how many bytes the listing
+ * has. */
 typedef struct {
     uint64_t number;
     uint64_t place;
+    uint64_t refused;
+    uint64_t at;
     uint64_t marked;
     uint64_t length;
 } xcf_list_answer;
 
 /* Puts the listing of a file at the start of a text of at least 65,536 bytes, and reads the file into the table as xcf_read
  * does. The listing is a line for the canvas and one for each row with its number, its kind, its numbers 1 to 15 and how many
- * of its tiles are marked; or, of a refused file, its number and place alone: `refused 13 at 133`. The text beyond it is
- * unchanged. A shorter text is an 11 with length 0, and it and the table stay as lent. */
+ * of its tiles are marked; or, of a refused file, one that is too long among them, the verdict alone: `refused 13 at 133`. The
+ * text beyond it is unchanged. A table of another length than 2,048 or a shorter text is an 11, and both stay as lent. */
 xcf_list_answer xcf_list(const uint8_t *file, size_t file_length, uint32_t *table, size_t table_length, uint8_t *text,
                          size_t text_length);
 

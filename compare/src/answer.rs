@@ -199,22 +199,35 @@ impl DecodeAnswer {
     }
 }
 
-/// The answer to listing a file.
-#[derive(Clone, Copy, Debug, PartialEq, Eq)]
+/// The answer to listing a file: the call's own refusal, the file's verdict,
+/// and what is listed.
+#[derive(Clone, Copy, Debug, Default, PartialEq, Eq)]
 pub struct ListAnswer {
     pub number: u64,
     pub place: u64,
+    pub refused: u64,
+    pub at: u64,
     pub marked: u64,
     pub length: u64,
 }
 
 impl ListAnswer {
-    pub fn new(read: ReadAnswer, marked: u64, length: usize) -> Self {
+    /// The call is refused, whatever the file.
+    pub fn not_listed() -> Self {
         ListAnswer {
-            number: read.number,
-            place: read.place,
+            number: WRONG_LENGTH,
+            ..Default::default()
+        }
+    }
+
+    /// A listing of so many bytes, of a file that was read so.
+    pub fn listed(read: ReadAnswer, marked: u64, length: usize) -> Self {
+        ListAnswer {
+            refused: read.number,
+            at: read.place,
             marked,
             length: length as u64,
+            ..Default::default()
         }
     }
 }

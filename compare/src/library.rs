@@ -21,7 +21,7 @@ convert! {
     WriteAnswer { number, place, length }
     ReadAnswer { number, place, width, height, base, version, compression, rows }
     DecodeAnswer { number, place, marked }
-    ListAnswer { number, place, marked, length }
+    ListAnswer { number, place, refused, at, marked, length }
 }
 
 pub fn decode_tile(

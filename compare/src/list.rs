@@ -1,8 +1,6 @@
 //! The reference: the listing of a file, and what is answered beside it.
 
-use crate::answer::{
-    FILE_TOO_LONG, LIST_LIMIT, ListAnswer, ROW_LENGTH, ReadAnswer, TABLE_LENGTH, WRONG_LENGTH,
-};
+use crate::answer::{FILE_TOO_LONG, LIST_LIMIT, ListAnswer, ROW_LENGTH, ReadAnswer, TABLE_LENGTH};
 use crate::decode::count_marked;
 use crate::read::read;
 
@@ -19,12 +17,12 @@ pub fn list(file: &[u8]) -> String {
 
 /// Puts the listing of a file of any length at a text's start.
 pub fn list_into(file: &[u8], table: &mut [u32], text: &mut [u8]) -> ListAnswer {
-    if text.len() < TEXT_LENGTH {
-        return ListAnswer::new(ReadAnswer::refused(WRONG_LENGTH, 0), 0, 0);
+    if table.len() != TABLE_LENGTH || text.len() < TEXT_LENGTH {
+        return ListAnswer::not_listed();
     }
     let (answer, listing, marked) = listing(file, table);
     text[..listing.len()].copy_from_slice(listing.as_bytes());
-    ListAnswer::new(answer, marked, listing.len())
+    ListAnswer::listed(answer, marked, listing.len())
 }
 
 /// What the reader answers, the listing, and how many tiles are marked: a line

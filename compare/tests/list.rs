@@ -2,7 +2,8 @@
 //! tables, equal texts, what stands behind the listing among them.
 
 use xcf_compare::answer::{
-    FILE_LIMIT, FILE_TOO_LONG, LIST_LIMIT, List, ListAnswer, TABLE_LENGTH, WRONG_LENGTH,
+    BAD_TILE_POINTER, FILE_LIMIT, FILE_TOO_LONG, LIST_LIMIT, List, ListAnswer, TABLE_LENGTH,
+    WRONG_LENGTH,
 };
 use xcf_compare::cases::drawable::{self, Kind as DrawableKind};
 use xcf_compare::files::{EXAMPLE, random_case};
@@ -41,21 +42,24 @@ fn assert_printed(file: &[u8], listing: &str) {
 fn files_agree() {
     let mut random = Random::new(SEED);
     let text = random.bytes(TEXT_LENGTH + 3);
-    let (mut accepted, mut refused, mut longest) = (0, 0, 0);
+    let (mut accepted, mut refused, mut unlisted, mut longest) = (0, 0, 0, 0);
     for _ in 0..FILES {
         let case = random_case(&mut random);
         let (answer, listing) = list_both(&case.file, &case.table, &text);
-        if case.table.len() == TABLE_LENGTH {
-            assert_printed(&case.file, &listing);
+        if answer.number != 0 {
+            unlisted += 1;
+            continue;
         }
-        accepted += usize::from(answer.number == 0);
-        refused += usize::from(answer.number != 0);
+        assert_printed(&case.file, &listing);
+        accepted += usize::from(answer.refused == 0);
+        refused += usize::from(answer.refused != 0);
         longest = longest.max(listing.len());
     }
     report(&format!(
-        "list: {FILES} files, {accepted} accepted, {refused} refused, a listing of {longest} bytes"
+        "list: {FILES} files, {accepted} accepted, {refused} refused, {unlisted} with a table of \
+         another length, a listing of {longest} bytes"
     ));
-    assert!(accepted >= 2_000 && refused >= 2_000 && longest >= 8_000);
+    assert!(accepted >= 2_000 && refused >= 2_000 && unlisted >= 50 && longest >= 8_000);
 }
 
 /// The marked tiles of all rows are counted.
@@ -81,20 +85,48 @@ fn damaged_files_agree() {
     assert!(marked.len() >= 100);
 }
 
-/// A text that is too short, or a table of another length, and nothing is
-/// touched but the refusal's line.
+/// The call's own refusal, of any file: every other number is 0, and table and
+/// text stay as lent.
+fn assert_not_listed(file: &[u8], table: usize, text: usize) {
+    let (lent_table, lent_text) = (vec![7; table], vec![0xA5; text]);
+    let (mut table, mut text) = (Guarded::new(&lent_table), Guarded::new(&lent_text));
+    let answer = library::list(file, table.lent(), text.lent());
+    let refusal = ListAnswer {
+        number: WRONG_LENGTH,
+        ..Default::default()
+    };
+    assert_eq!(answer, refusal);
+    assert_eq!(table.difference(&Guarded::new(&lent_table)), None);
+    assert_eq!(text.difference(&Guarded::new(&lent_text)), None);
+}
+
+/// A text that is too short, or a table of another length.
 #[test]
 fn lengths() {
-    let short = vec![0xA5; TEXT_LENGTH - 1];
-    let (answer, listing) = list_both(&EXAMPLE, &[7; TABLE_LENGTH], &short);
-    assert_eq!((answer.number, answer.place), (WRONG_LENGTH, 0));
-    assert_eq!((answer.marked, listing.as_str()), (0, ""));
-    for length in [0, TABLE_LENGTH - 1, TABLE_LENGTH + 1] {
-        let text = vec![0xA5; TEXT_LENGTH];
-        let (answer, listing) = list_both(&EXAMPLE, &vec![7; length], &text);
-        assert_eq!(answer.number, WRONG_LENGTH);
-        assert_eq!(listing, "refused 11 at 0\n");
+    let cut = &EXAMPLE[..140];
+    let too_long = vec![0; FILE_LIMIT + 1];
+    for file in [&EXAMPLE[..], cut, &[], &too_long] {
+        assert_not_listed(file, TABLE_LENGTH, TEXT_LENGTH - 1);
+        assert_not_listed(file, TABLE_LENGTH, 0);
+        for table in [0, TABLE_LENGTH - 1, TABLE_LENGTH + 1] {
+            assert_not_listed(file, table, TEXT_LENGTH);
+            assert_not_listed(file, table, 1);
+        }
     }
+}
+
+/// The verdict is the reader's number and place, and its line is the listing.
+#[test]
+fn verdicts() {
+    let (table, text) = (vec![7; TABLE_LENGTH], vec![0xA5; TEXT_LENGTH]);
+    let (answer, listing) = list_both(&EXAMPLE[..140], &table, &text);
+    let verdict = ListAnswer {
+        refused: BAD_TILE_POINTER,
+        at: 133,
+        length: 18,
+        ..Default::default()
+    };
+    assert_eq!((answer, listing.as_str()), (verdict, "refused 13 at 133\n"));
 }
 
 /// The limit is the reader's, not the small program's.
@@ -104,13 +136,18 @@ fn limits() {
     let mut file = EXAMPLE.to_vec();
     file.resize(LIST_LIMIT + 1, 0);
     let (answer, listing) = list_both(&file, &table, &text);
-    assert_eq!((answer.number, listing), (0, list(&EXAMPLE)));
+    assert_eq!((answer.refused, listing), (0, list(&EXAMPLE)));
     file.resize(FILE_LIMIT + 1, 0);
-    let mut after = table.clone();
-    let answer = library::list(&file, &mut after, &mut text.clone());
-    assert_eq!((answer.number, answer.place), (FILE_TOO_LONG, 0));
-    assert_eq!((answer.length, &after), (16, &table));
+    let (mut table_after, mut text_after) = (table.clone(), text.clone());
+    let answer = library::list(&file, &mut table_after, &mut text_after);
+    let verdict = ListAnswer {
+        refused: FILE_TOO_LONG,
+        length: 16,
+        ..Default::default()
+    };
+    assert_eq!((answer, &table_after), (verdict, &table));
+    assert_eq!(&text_after[..17], b"refused 15 at 0\n\xA5");
     file.pop();
-    let answer = library::list(&file, &mut after, &mut text.clone());
-    assert_eq!((answer.number, answer.marked), (0, 0));
+    let answer = library::list(&file, &mut table_after, &mut text_after);
+    assert_eq!((answer.number, answer.refused, answer.marked), (0, 0, 0));
 }

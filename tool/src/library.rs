@@ -60,7 +60,7 @@ answers! {
     /// The answer to decoding a drawable, or to counting its marked tiles.
     DecodeAnswer = "xcf_decode_answer" { number, place, marked }
     /// The answer to listing a file.
-    ListAnswer = "xcf_list_answer" { number, place, marked, length }
+    ListAnswer = "xcf_list_answer" { number, place, refused, at, marked, length }
 }
 
 unsafe extern "C" {

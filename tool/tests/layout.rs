@@ -73,8 +73,8 @@ fn another_layout_is_refused() {
     let program = program();
     for (claim, wrong) in [
         (
-            "xcf_list_answer, marked) == 16",
-            "xcf_list_answer, marked) == 8",
+            "xcf_list_answer, refused) == 16",
+            "xcf_list_answer, refused) == 8",
         ),
         (
             "sizeof(xcf_read_answer) == 64",

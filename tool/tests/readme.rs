@@ -37,8 +37,8 @@ fn the_readme_shows_what_the_command_gives() {
         .filter(|(command, _)| command.starts_with("./xcf "));
     assert!(of_ours.count() >= 3, "{shown:?}");
     let folder = Folder::new();
-    let data = Path::new(env!("CARGO_MANIFEST_DIR")).join("../tests");
-    std::os::unix::fs::symlink(data, folder.path("tests")).expect("a link");
+    let data = Path::new(env!("CARGO_MANIFEST_DIR")).join("../compare");
+    std::os::unix::fs::symlink(data, folder.path("compare")).expect("a link");
     std::os::unix::fs::symlink(XCF, folder.path("xcf")).expect("a link");
     for (command, expected) in shown {
         let run = folder.program("bash").args(["-c", &command]).output();

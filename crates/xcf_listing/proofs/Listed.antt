@@ -3,15 +3,15 @@
 -- has none, and so no marked tile.
 -- Assumes nothing.
 use mathlib.Core.Path.{_≡_, refl, sym, ap, _∙_}
-use mathlib.Core.List.{List, []}
-use mathlib.Core.Bool.{Bool, true, false, cond}
+use mathlib.Core.List.{List, _++_}
+use mathlib.Core.Bool.{true, false, and-eq-true-iff}
 use mathlib.Core.Logic.{⊎-elim}
 use Prim.Native.Nat.{ℕ, _*_, _≤_, _<_}
 use native.Mathlib.Nat.{zero-add}
 use native.Mathlib.Omega.{arith}
-use borrow.Author.Tests.{le-leb, lt-leb, eq-eqb, ne-eqb}
+use borrow.Author.Tests.{le-leb, lt-leb, eq-eqb, ne-eqb, leb-true}
 use lib.Dec.{leb, eqb}
-use lib.ListN.{length, length-append}
+use lib.ListN.{length, drop, length-append}
 use lib.Seq.{sets-eq, length-take-le}
 use Rattle.xcf_numbers.specs.Limit.{fileLimit, tableRows, tableSize}
 use Rattle.xcf_numbers.specs.Kind
@@ -30,7 +30,7 @@ use Rattle.xcf_read.specs.Answer.{refusal, Reading, readingOf, reading, Read}
 use Rattle.xcf_read_laws.proofs.Accepted.{accepted-sized, read-walked, accepted-exactly}
 use Rattle.xcf_read_laws.proofs.Accepts.{Accepts, accepts}
 use Rattle.xcf_listing.specs.declared.ListAnswer.{ListAnswer}
-use Rattle.xcf_listing.specs.Listing.{textSize, rowLines, linesOf, markedTiles, listLimit, readingWithin, listing, written, answerOf, listAnswer, tableAfter, Lists, Prints}
+use Rattle.xcf_listing.specs.Listing.{textSize, rowLines, linesOf, markedTiles, listLimit, readingWithin, lentFits, Listing, listAnswer, answerOf, notListed, listing, Lists, Prints}
 use Rattle.xcf_line.specs.Line.{canvasLine, refusedLine}
 
 -- row 128 would be an unused row, of kind 0
@@ -83,79 +83,82 @@ unfolding readingWithin
 within limit file table short = rw (le-leb _ _ short)
 
 module _ (limit : ℕ) (file table text : List ℕ) where
-  -- too short a text
-  pub lists-none : {r : ListAnswer} → length text < textSize → r ≡ record { number = Refusal.wrongBuffer; place = 0; marked = 0; length = 0 }
-      → Lists limit file table text r table text
-  unfolding written tableAfter listAnswer
-  lists-none short e = record { answer = rw (lt-leb _ _ short) e; text = rw (e, lt-leb _ _ short); table = rw (lt-leb _ _ short) }
+  -- a table of another length, or too short a text
+  pub lists-none : {r : ListAnswer} → lentFits (length table) (length text) ≡ false → r ≡ notListed → Lists limit file table text r table text
+  unfolding listing
+  lists-none unfit e = record { answer = rw unfit e; table = rw unfit; text = rw unfit }
 
-  -- the listing of a reading, put at the text's start
-  module _ (room : textSize ≤ length text) {end : ℕ} {new : List ℕ} where
-    lists-put : {x : Reading} {marked : ℕ} → readingWithin limit file table ≡ x
-        → marked ≡ markedTiles file (x .table) (x .answer .compression) 0 (x .answer .rows) → PutWithin text 0 (linesOf file x) textSize end new
-        → Lists limit file table text (record { number = x .answer .number; place = x .answer .place; marked = marked; length = end }) (x .table) new
-    unfolding written listing tableAfter listAnswer answerOf
-    lists-put {x} e d p = record {
-      answer = rw (le-leb _ _ room, e, d, p .put .behind, zero-add);
-      text = rw (le-leb _ _ room, e, p .put .behind) (p .put .output ∙ sets-eq (linesOf file x) text 0 (omega (arith, p .few)));
-      table = rw (le-leb _ _ room, e);
-    }
+  -- the lines of a reading, put at the text's start
+  module _ (fit : lentFits (length table) (length text) ≡ true) {new : List ℕ} {r : ListAnswer} where
+    lists-put : {x : Reading} → readingWithin limit file table ≡ x
+        → r ≡ listAnswer (x .answer .number) (x .answer .place) (markedTiles file (x .table) (x .answer .compression) 0 (x .answer .rows)) (r .length)
+        → PutWithin text 0 (linesOf file x) textSize (r .length) new → Lists limit file table text r (x .table) new
+    unfolding listing answerOf lentFits
+    lists-put {x} e a p =
+        let lines = linesOf file x in
+        let room : textSize ≤ length text = leb-true _ _ (and-eq-true-iff (eqb (length table) tableSize) _ .0 fit .1) in
+        record {
+          answer = rw (fit, e) (rw (← zero-add (length lines), ← p .put .behind) a);
+          table = rw (fit, e);
+          text = rw (fit, e) (p .put .output ∙ sets-eq lines text 0 (omega (arith, p .few, room)) ∙ ap (λ (k : ℕ). lines ++ drop k text) (zero-add (length lines)));
+        }
 
     -- too long a file
-    pub lists-long : {r : ListAnswer} → limit < length file → PutWithin text 0 (refusedLine 15 0) lineSize end new
-        → r ≡ record { number = Refusal.tooLong; place = 0; marked = 0; length = end } → Lists limit file table text r table new
+    pub lists-long : limit < length file → r ≡ listAnswer Refusal.tooLong 0 0 (r .length)
+        → PutWithin text 0 (refusedLine Refusal.tooLong 0) textSize (r .length) new → Lists limit file table text r table new
     unfolding readingWithin markedTiles linesOf
-    lists-long long p e =
-        rw e
-        (lists-put {x = record { answer = refusal Refusal.tooLong 0; table = table }} (rw (lt-leb _ _ long)) refl (within-more textSize (omega arith) p))
+    lists-long long a p = lists-put {x = record { answer = refusal Refusal.tooLong 0; table = table }} (rw (lt-leb _ _ long)) a p
 
     -- what the reader answered
     module _ (short : length file ≤ limit) {a : ReadAnswer} {after : List ℕ} (read : Read file table a after) where
-      pub lists-refused : {r : ListAnswer} → (a .number ≡ 0 → ⊥) → PutWithin text 0 (refusedLine (a .number) (a .place)) lineSize end new
-          → r ≡ record { number = a .number; place = a .place; marked = 0; length = end } → Lists limit file table text r after new
+      pub lists-refused : (a .number ≡ 0 → ⊥) → r ≡ listAnswer (a .number) (a .place) 0 (r .length)
+          → PutWithin text 0 (refusedLine (a .number) (a .place)) textSize (r .length) new → Lists limit file table text r after new
       unfolding markedTiles linesOf
-      lists-refused n p e =
+      lists-refused n e p =
           let none = no-rows file table (rw (read .answer) at n) in
-          rw (e, read .answer, read .table)
-          (lists-put (within limit file table short) (rw none) (rw (← read .answer, ne-eqb _ _ n) (within-more textSize (omega arith) p)))
+          rw (read .table)
+          (lists-put (within limit file table short) (rw (none, ← read .answer) e) (rw (← read .answer, ne-eqb _ _ n) p))
 
       -- the canvas's line, and the rows' behind it
-      pub lists-accepted : {marked at : ℕ} {mid : List ℕ} → a .number ≡ 0 → marked ≡ markedTiles file after (a .compression) 0 (a .rows)
-          → PutWithin text 0 (canvasLine a) lineSize at mid
-          → PutWithin mid at (rowLines file after (a .compression) 0 (a .rows)) (lineSize * a .rows) end new
-          → Lists limit file table text (record { number = 0; place = 0; marked = marked; length = end }) after new
+      pub lists-accepted : a .number ≡ 0 → r ≡ listAnswer 0 0 (markedTiles file after (a .compression) 0 (a .rows)) (r .length)
+          → PutWithin text 0 (canvasLine a ++ rowLines file after (a .compression) 0 (a .rows)) textSize (r .length) new
+          → Lists limit file table text r after new
       unfolding linesOf
-      lists-accepted {marked} n d p q =
-          let x = reading file table in
+      lists-accepted n e p =
           let number = rw (read .answer) at n in
-          let answer : ListAnswer = record { number = 0; place = 0; marked = marked; length = end } in
-          let same : answer ≡ record { number = x .answer .number; place = x .answer .place; marked = marked; length = end } =
-          rw (number, no-place file table number) in
-          let all = within-more textSize (omega (arith, listable file table read n .few)) (within-append p q) in
-          rw (same, read .table)
-          (lists-put (within limit file table short) (rw (← read .answer, ← read .table) d) (rw (← read .answer, ← read .table, eq-eqb _ _ n) all))
+          rw (read .table)
+          (lists-put (within limit file table short)
+          (rw (number, no-place file table number, ← read .answer, ← read .table) e)
+          (rw (← read .answer, ← read .table, eq-eqb _ _ n) p))
 
--- the length answered is that of what is written
-answer-length : (limit : ℕ) (file table : List ℕ) (room : ℕ) → listAnswer limit file table room .length ≡ length (written limit file table room)
-unfolding listAnswer answerOf written listing
-answer-length limit file table room = go (leb textSize room)
-  where
-    x : Reading
-    x = readingWithin limit file table
-
-    go : (b : Bool) → cond b (answerOf file x) (record { number = Refusal.wrongBuffer; place = 0; marked = 0; length = 0 }) .length ≡ length (cond b (linesOf file x) [])
-    go true = refl
-    go false = refl
+-- the length answered is that of the lines at the text's start
+listing-inside : (limit : ℕ) (file table text : List ℕ) → let x = listing limit file table text in x .answer .length ≤ length (x .text)
+unfolding listing answerOf
+listing-inside limit file table text =
+    by-cases (λ (x : Listing). x .answer .length ≤ length (x .text)) (lentFits (length table) (length text)) _ _
+    (λ _. simp length-append (omega arith)) (λ _. omega arith)
 
 -- the bytes of the listing are counted, so that a caller can take them
 pub lists-counted : {limit : ℕ} {file table text : List ℕ} {r : ListAnswer} {after new : List ℕ} → Lists limit file table text r after new
     → Lists limit file table text r after new × Counts (r .length) new
 lists-counted {limit} {file} {table} {text} {r} {new = new} l =
-    let inside : r .length ≤ length new =
-    rw (l .text) (simp length-append (omega (arith, ap (λ (a : ListAnswer). a .length) (l .answer), answer-length limit file table (length text)))) in
+    let inside : r .length ≤ length new = rw (l .answer, l .text) (listing-inside limit file table text) in
     (l, (inside, sym (length-take-le (r .length) new inside)))
 
 -- what is listed is printed
 pub lists-printed : {file table text : List ℕ} {r : ListAnswer} {after new : List ℕ} → Lists listLimit file table text r after new
     → Prints file table text after new
 lists-printed l = rw (l .answer) at l
+
+-- the tests of the lent table and text
+pub fits-not-table : (table text : ℕ) → (table ≡ tableSize → ⊥) → lentFits table text ≡ false
+unfolding lentFits
+fits-not-table table text n = rw (ne-eqb _ _ n)
+
+pub fits-not-text : (table text : ℕ) → table ≡ tableSize → text < textSize → lentFits table text ≡ false
+unfolding lentFits
+fits-not-text table text t n = rw (eq-eqb _ _ t, lt-leb _ _ n)
+
+pub fits-both : (table text : ℕ) → table ≡ tableSize → textSize ≤ text → lentFits table text ≡ true
+unfolding lentFits
+fits-both table text t n = rw (eq-eqb _ _ t, le-leb _ _ n)

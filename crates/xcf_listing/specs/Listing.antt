@@ -1,10 +1,12 @@
--- The listing of a file: a line for its canvas and one for each row, or the refusal's line alone; and the answer beside it.
+-- The listing of a file: a line for its canvas and one for each row, or the refusal's line alone; and what the call that lists it
+-- answers and leaves in the table and the text.
 use Prim.Native.Nat.{ℕ, zero, suc, _+_}
 use mathlib.Core.Path.{_≡_}
 use mathlib.Core.List.{List, [], _∷_, _++_}
-use mathlib.Core.Bool.{cond}
+use mathlib.Core.Bool.{Bool, cond, _&&_}
 use lib.ListN.{length, drop}
 use lib.Dec.{leb, eqb}
+use Rattle.xcf_numbers.specs.Limit.{tableSize}
 use Rattle.xcf_numbers.specs.Refusal
 use Rattle.xcf_store.specs.Pointer.{pointerSize}
 use Rattle.xcf_read.specs.Answer.{refusal, Reading, reading, refusals}
@@ -31,7 +33,7 @@ linesOf file x =
     (canvasLine (x .answer) ++ rowLines file (x .table) (x .answer .compression) 0 (x .answer .rows))
     (refusedLine (x .answer .number) (x .answer .place))
 
--- the most bytes of a file whose listing is printed (RULES, "Listing")
+-- the most bytes of a file whose listing is printed; a longer one is refused as too long
 abbrev pub listLimit : ℕ
 listLimit = 32768
 
@@ -40,47 +42,57 @@ unfoldable pub readingWithin : ℕ → List ℕ → List ℕ → Reading
 readingWithin limit file table =
     cond (leb (length file) limit) (reading file table) (record { answer = refusal Refusal.tooLong 0; table = table })
 
-unfoldable pub listing : ℕ → List ℕ → List ℕ → List ℕ
-listing limit file table = linesOf file (readingWithin limit file table)
-
 -- room for every listing
 abbrev pub textSize : ℕ
 textSize = 65536
 
--- what is written: nothing where there may be no room
-unfoldable pub written : ℕ → List ℕ → List ℕ → ℕ → List ℕ
-written limit file table room = cond (leb textSize room) (listing limit file table) []
+-- a table of the right length, and room for every listing
+unfoldable pub lentFits : ℕ → ℕ → Bool
+lentFits table text = eqb table tableSize && leb textSize text
 
--- the answer: what refused the file, its marked tiles, and the length of its listing
+-- an answer, and the content of the table and the text beside it
+pub record Listing : Type 0 where
+  pub answer : ListAnswer
+  pub table : List ℕ
+  pub text : List ℕ
+
+-- beside a listing: the file's verdict, its marked tiles, and the listing's length
+abbrev pub listAnswer : ℕ → ℕ → ℕ → ℕ → ListAnswer
+listAnswer refused at marked size = record { number = 0; place = 0; refused = refused; at = at; marked = marked; length = size }
+
+-- the verdict is the reader's
 unfoldable pub answerOf : List ℕ → Reading → ListAnswer
-answerOf file x = record {
-  number = x .answer .number;
-  place = x .answer .place;
-  marked = markedTiles file (x .table) (x .answer .compression) 0 (x .answer .rows);
-  length = length (linesOf file x);
-}
+answerOf file x =
+    let marked = markedTiles file (x .table) (x .answer .compression) 0 (x .answer .rows) in
+    listAnswer (x .answer .number) (x .answer .place) marked (length (linesOf file x))
 
--- 11 where there may be no room
-unfoldable pub listAnswer : ℕ → List ℕ → List ℕ → ℕ → ListAnswer
-listAnswer limit file table room =
-    cond (leb textSize room) (answerOf file (readingWithin limit file table))
-    (record { number = Refusal.wrongBuffer; place = 0; marked = 0; length = 0 })
+-- the call's own refusal
+abbrev pub notListed : ListAnswer
+notListed = record { number = Refusal.wrongBuffer; place = 0; refused = 0; at = 0; marked = 0; length = 0 }
 
--- the numbers that are answered: 0, and those of a refused reading
+-- 11 leaves the table and the text as lent; else the table is the reader's, and the listing stands at the text's start
+unfoldable pub listing : ℕ → List ℕ → List ℕ → List ℕ → Listing
+listing limit file table text =
+    let x = readingWithin limit file table in
+    let lines = linesOf file x in
+    cond (lentFits (length table) (length text))
+    (record { answer = answerOf file x; table = x .table; text = lines ++ drop (length lines) text })
+    (record { answer = notListed; table = table; text = text })
+
+-- the numbers that the call answers, and those of a file's verdict
 abbrev pub listerNumbers : List ℕ
-listerNumbers = Refusal.accepted ∷ Refusal.wrongBuffer ∷ Refusal.tooLong ∷ refusals
+listerNumbers = Refusal.accepted ∷ Refusal.wrongBuffer ∷ []
 
--- the table is the reader's, where the reader is asked
-unfoldable pub tableAfter : ℕ → List ℕ → List ℕ → ℕ → List ℕ
-tableAfter limit file table room = cond (leb textSize room) (readingWithin limit file table .table) table
+abbrev pub verdictNumbers : List ℕ
+verdictNumbers = Refusal.accepted ∷ Refusal.tooLong ∷ refusals
 
 -- the promise: the answer r, and the new content of table and text
 pub record Lists (limit : ℕ) (file oldTable oldText : List ℕ) (r : ListAnswer) (newTable newText : List ℕ) : Type 0 where
-  pub answer : r ≡ listAnswer limit file oldTable (length oldText)
-  pub text : newText ≡ written limit file oldTable (length oldText) ++ drop (r .length) oldText
-  pub table : newTable ≡ tableAfter limit file oldTable (length oldText)
+  pub answer : r ≡ listing limit file oldTable oldText .answer
+  pub table : newTable ≡ listing limit file oldTable oldText .table
+  pub text : newText ≡ listing limit file oldTable oldText .text
 
 -- the same of a printed listing, whose answer is not handed out
 abbrev pub Prints : List ℕ → List ℕ → List ℕ → List ℕ → List ℕ → Type 0
 Prints file oldTable oldText newTable newText =
-    Lists listLimit file oldTable oldText (listAnswer listLimit file oldTable (length oldText)) newTable newText
+    Lists listLimit file oldTable oldText (listing listLimit file oldTable oldText .answer) newTable newText

@@ -32,8 +32,8 @@ fn listing(file: &OsStr) -> Result<(Vec<u8>, Status), Fault> {
     let mut text = vec![0; TEXT_LENGTH];
     let answer = library::list(&bytes, &mut [0; TABLE_LENGTH], &mut text);
     text.truncate(answer.length as usize);
-    let status = match (answer.number, answer.marked) {
-        (0, 0) => Status::Fine,
+    let status = match (answer.number, answer.refused, answer.marked) {
+        (0, 0, 0) => Status::Fine,
         _ => Status::Refused,
     };
     Ok((text, status))
