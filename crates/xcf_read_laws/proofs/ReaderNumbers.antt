@@ -1,0 +1,33 @@
+-- The reader answers a listed number (`reader-listed`): 0, the 11 of a table, the 15 of a file, or a number of its walk, by the tests
+-- of their lengths.
+-- Assumes nothing.
+use Prim.Native.Nat.{ℕ}
+use mathlib.Core.Path.{_≡_, refl}
+use mathlib.Core.List.{List}
+use mathlib.Core.Bool.{true, or-true}
+use lib.Dec.{leb, eqb}
+use lib.ListN.{length}
+use native.Mathlib.Omega.{arith}
+use Rattle.xcf_numbers.specs.Limit.{fileLimit, tableSize}
+use Rattle.xcf_numbers.specs.Refusal.{listed}
+use Rattle.xcf_walk.specs.Walk.{Outcome, got, refused, run}
+use Rattle.xcf_laws.proofs.Cases.{by-cases}
+use Rattle.xcf_store.specs.Pointer.{pointerSize}
+use Rattle.xcf_read.specs.Image.{Image, image}
+use Rattle.xcf_read.specs.Answer.{refusals, readerNumbers, Reading, readingOf, reading}
+use Rattle.xcf_read_laws.proofs.Numbers.{refusals-listed}
+
+abbrev Listed : Reading → Type 0
+Listed x = listed readerNumbers (x .answer .number) ≡ true
+
+walk-listed : (x : Outcome Image) → ((n p : ℕ) → refused n p ≡ x → listed refusals n ≡ true) → Listed (readingOf x)
+unfolding listed
+walk-listed (got x q) h = refl
+walk-listed (refused n p) h = rw (h n p refl, or-true, or-true, or-true)
+
+pub reader-listed : (file table : List ℕ) → listed readerNumbers (reading file table .answer .number) ≡ true
+unfolding reading listed
+reader-listed file table =
+    by-cases Listed (eqb (length table) tableSize) _ _
+    (λ _. by-cases Listed (leb (length file) fileLimit) _ _ (λ _. walk-listed (run (image pointerSize) file 0) (refusals-listed pointerSize (omega arith) file)) (λ _. refl))
+    (λ _. refl)
