@@ -20,7 +20,7 @@ use Rattle.xcf_decode.specs.Answer.{drawableRefusal, Decoding, rowDecoding, dec
 use Rattle.xcf_decode.proofs.Usable.{drawable-ready}
 use Rattle.xcf_decode_laws.proofs.TilesShown.{row-shows}
 
--- what a decoding shows of tile t of a row
+-- tile t of a row, as a decoding shows it, is good when valid
 abbrev TileGood : ℕ → List ℕ → Row → ℕ → ℕ → Decoding → Type 0
 TileGood size f r compression t d =
     GoodWhenValid (window size f r t) (tileWidth (r .width) t) (tileHeight (r .width) (r .height) t) (r .depth) compression
