@@ -13,6 +13,7 @@ use lib.ListN.{length}
 use Rattle.xcf_numbers.specs.Limit.{fileLimit, sideLimit, depthLimit, tableSize}
 use Rattle.xcf_numbers.specs.Kind
 use Rattle.xcf_numbers.specs.Refusal
+use Rattle.xcf_numbers.specs.Refusal.{listed}
 use Rattle.xcf_walk.specs.Walk.{Outcome, got, refused, run}
 use Rattle.xcf_table.specs.declared.Row.{Row}
 use Rattle.xcf_grid.specs.Grid.{tileCount}
@@ -20,7 +21,7 @@ use Rattle.xcf_range.specs.Range.{within}
 use Rattle.xcf_range.proofs.Bounds.{within-bounds}
 use Rattle.xcf_parse.specs.Hierarchy.{tiles}
 use Rattle.xcf_store.specs.Pointer.{pointerSize, pointerSizeOk, PointerSize}
-use Rattle.xcf_read.specs.Answer.{refusals, listed}
+use Rattle.xcf_read.specs.Answer.{refusals}
 use Rattle.xcf_read_laws.proofs.Numbers.{numbered-tiles}
 use Rattle.xcf_window.specs.Usable.{inRange, inFile, decodableRow, fits, rowRefusal}
 use Rattle.xcf_decode.specs.Answer.{refusal, pointersRefusal, drawableRefusal}

@@ -1,5 +1,5 @@
 -- The numbers of the decoder's refusals: a walk over tile pointers that lie in the file is refused with 13 (`pointers-13`), so that
--- the decoder answers 0, 11, 13, 14 or 15 (`decoder-listed`).
+-- the decoder answers 0, 11, 13, 14 or 15 (`decoder-listed`), and so does the count without buffers (`counter-listed`).
 -- Assumes nothing.
 use Prim.Native.Nat.{ℕ, zero, suc, _+_, _*_, _≤_}
 use mathlib.Core.Path.{_≡_, refl, sym, _∙_}
@@ -12,6 +12,7 @@ use lib.Dec.{leb, eqb}
 use lib.ListN.{length}
 use Rattle.xcf_numbers.specs.Limit.{fileLimit, tableSize}
 use Rattle.xcf_numbers.specs.Refusal
+use Rattle.xcf_numbers.specs.Refusal.{listed}
 use Rattle.xcf_walk.specs.Walk.{Outcome, got, refused, Walk, run, bytes, here, fileLength, must, _>>=_}
 use Rattle.xcf_store.specs.Word.{part, bigEndian}
 use Rattle.xcf_walk.specs.Fields.{number}
@@ -22,10 +23,9 @@ use Rattle.xcf_grid.specs.Grid.{tileCount}
 use Rattle.xcf_laws.proofs.Cases.{by-cases}
 use Rattle.xcf_parse.specs.Hierarchy.{tiles}
 use Rattle.xcf_store.specs.Pointer.{pointerSizeOk}
-use Rattle.xcf_read.specs.Answer.{listed}
 use Rattle.xcf_decode.specs.declared.DecodeAnswer.{DecodeAnswer}
 use Rattle.xcf_window.specs.Usable.{inRange, inFile, decodableRow, fits, rowRefusal}
-use Rattle.xcf_decode.specs.Answer.{refusal, pointersRefusal, drawableRefusal, decoderNumbers, Decoding, rowDecoding, decoding}
+use Rattle.xcf_decode.specs.Answer.{refusal, pointersRefusal, drawableRefusal, decoderNumbers, marksOf, counted, Decoding, rowDecoding, decoding, counting}
 
 -- a number that lies in the file is read
 number-there : (size : ℕ) (f : List ℕ) (at : ℕ) {A : Type 0} (k : ℕ → Walk A) → at + size ≤ length f
@@ -96,3 +96,11 @@ decoder-listed size file table k compression pixels marks =
     by-cases (λ (d : Decoding). Listed (d .answer)) (eqb (answer .number) 0) (rowDecoding size file r compression)
     (record { answer = answer; pixels = pixels; marks = marks }) (λ _. refl)
     (λ _. drawable-listed size file (length table) r compression (fits r (length pixels) (length marks)))
+
+pub counter-listed : (size : ℕ) (file table : List ℕ) (k compression : ℕ) → listed decoderNumbers (counting size file table k compression .number) ≡ true
+unfolding counting listed
+counter-listed size file table k compression =
+    let r = rowAt table k in
+    let answer = drawableRefusal size file (length table) r compression true in
+    by-cases Listed (eqb (answer .number) 0) (counted (marksOf size file r compression)) answer (λ _. refl)
+    (λ _. drawable-listed size file (length table) r compression true)

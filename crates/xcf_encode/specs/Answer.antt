@@ -1,7 +1,7 @@
 -- What a call that encodes one stream or one tile answers and leaves in the output.
 use mathlib.Core.Path.{_≡_}
 use Prim.Native.Nat.{ℕ, _*_}
-use mathlib.Core.List.{List, _++_}
+use mathlib.Core.List.{List, [], _∷_, _++_}
 use mathlib.Core.Bool.{cond}
 use lib.ListN.{length, drop}
 use lib.Dec.{ltb, eqb}
@@ -40,6 +40,10 @@ tileRefusal w h depth pixels room =
     (roomRefusal (length (encodeTile (w * h) depth pixels)) room)
     Refusal.wrongBuffer)
     Refusal.unusable
+
+-- the numbers that are answered for a tile
+abbrev pub encoderNumbers : List ℕ
+encoderNumbers = Refusal.accepted ∷ Refusal.wrongBuffer ∷ Refusal.unusable ∷ Refusal.noRoom ∷ []
 
 pub record TileEncoded (pixels : List ℕ) (w h depth : ℕ) (old : List ℕ) (r : EncodeAnswer) (new : List ℕ) : Type 0 where
   pub answer : r ≡ encodeAnswer (tileRefusal w h depth pixels (length old)) (encodeTile (w * h) depth pixels)

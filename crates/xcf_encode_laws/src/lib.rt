@@ -1,1 +1,1 @@
-// What was encoded is read back: proofs only.
+// What was encoded is read back, and the numbers of a call: proofs only.

@@ -15,12 +15,12 @@ use Rattle.xcf_window.specs.Window.{window, tile}
 use Rattle.xcf_decode.specs.Answer.{rowDecoding}
 use Rattle.xcf_isolation.specs.Isolation.{Damaged, RowIsolated, Isolation}
 use Rattle.xcf_window.proofs.TilePointers.{tiles-end}
-use Rattle.xcf_isolation.proofs.Encodings.{tile-good-when-valid}
 use Rattle.xcf_read_laws.proofs.Accepts.{accepts}
 use Rattle.xcf_decode_laws.proofs.RowDecoded.{row-decoded}
 use Rattle.xcf_isolation.proofs.SameBytes.{structure-same, window-byte-same, read-same}
 use Rattle.xcf_isolation.proofs.SameWindows.{window-same}
 use Rattle.xcf_decode_laws.proofs.TilesShown.{row-shows}
+use Rattle.xcf_decode_laws.proofs.TilesGood.{row-good-when-valid}
 
 -- the same window gives the same tile
 tile-same : (size : ℕ) (f g : List ℕ) (r : Row) (compression t : ℕ) → window size g r t ≡ window size f r t
@@ -42,7 +42,7 @@ row-isolated size {f} {S} {r} g compression Chosen row windows =
           let e = tile-same size f g r compression t (windows t below free) in
           (after t below .0 ∙ ap (λ (x : Tile). x .mark) e ∙ sym (before t below .0), after t below .1 ∙ ap (λ (x : Tile). x .pixels) e ∙ sym (before t below .1));
       given = λ t below _. after t below;
-      good = λ t below _. rw (after t below .0, after t below .1) (tile-good-when-valid _ _ _ _ _);
+      good = λ t below _. row-good-when-valid size g r compression (row .width .0) (row .depth .0) (row .count) t below;
     }
 
 module _ (f g lent : List ℕ) (Chosen : ℕ → ℕ → Type 0) (accepted : reading f lent .answer .number ≡ 0) (damage : Damaged pointerSize f g (reading f lent) Chosen) where

@@ -1,4 +1,3 @@
-pub mod Encodings
 pub mod SameBytes
 pub mod SameWindows
 pub mod Isolated

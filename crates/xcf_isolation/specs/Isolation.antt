@@ -1,12 +1,12 @@
 -- RULES, "Isolation": damage inside the windows of some tiles changes nothing outside them. A pointer has `size` bytes.
-use Prim.Native.Nat.{ℕ, _*_, _≤_, _<_}
+use Prim.Native.Nat.{ℕ, _<_}
 use mathlib.Core.Path.{_≡_}
 use mathlib.Core.List.{List}
 use mathlib.Core.Bool.{true}
-use lib.ListN.{length, getD, take, replicate}
+use lib.ListN.{length, getD}
 use Rattle.xcf_table.specs.declared.Row.{Row}
 use Rattle.xcf_grid.specs.Grid.{tileWidth, tileHeight}
-use Rattle.xcf_tile.specs.Tile.{tileOf}
+use Rattle.xcf_tile_laws.specs.Valid.{GoodWhenValid}
 use Rattle.xcf_store.specs.Pointer.{pointerSize}
 use Rattle.xcf_read.specs.Image.{structureByte}
 use Rattle.xcf_read.specs.Answer.{Reading, reading, rowOf}
@@ -14,25 +14,6 @@ use Rattle.xcf_window.specs.Window.{window, InWindow, tile}
 use Rattle.xcf_grid.specs.Pixels.{shown}
 use Rattle.xcf_window.specs.Usable.{fits}
 use Rattle.xcf_decode.specs.Answer.{Decoding, decoding}
-
--- the rules give the whole tile from these bytes with no 20 or 21, all of them consumed, and these are its pixels
-pub record Encoding (bytes : List ℕ) (w h depth compression : ℕ) (pixels : List ℕ) : Type 0 where
-  pub good : tileOf bytes w h depth compression .mark ≡ 0
-  pub whole : tileOf bytes w h depth compression .consumed ≡ length bytes
-  pub shows : tileOf bytes w h depth compression .pixels ≡ pixels
-
--- the first n bytes of the window are a valid encoding of these pixels
-pub record BeginsWith (window : List ℕ) (w h depth compression : ℕ) (pixels : List ℕ) : Type 0 where
-  pub n : ℕ
-  pub inside : n ≤ length window
-  pub encoding : Encoding (take n window) w h depth compression pixels
-
--- a tile's mark and pixels: it is good exactly when its window begins with a valid encoding, and then shows that encoding's
--- pixels; otherwise it is marked and its pixels are zero
-pub record GoodWhenValid (window : List ℕ) (w h depth compression mark : ℕ) (pixels : List ℕ) : Type 0 where
-  pub good : mark ≡ 0 → BeginsWith window w h depth compression pixels
-  pub valid : (ps : List ℕ) → BeginsWith window w h depth compression ps → (mark ≡ 0) × (pixels ≡ ps)
-  pub marked : (mark ≡ 0 → ⊥) → pixels ≡ replicate (w * h * depth) 0
 
 -- tile t of row k is a tile of the file: rows have their own tiles even if they share pointers
 pub record IsTile (x : Reading) (k t : ℕ) : Type 0 where
@@ -68,8 +49,8 @@ pub record RowIsolated (size : ℕ) (g : List ℕ) (r : Row) (compression : ℕ)
       → GoodWhenValid (window size g r t) (tileWidth (r .width) t) (tileHeight (r .width) (r .height) t) (r .depth) compression
       (getD (e .marks) t 0) (shown (r .width) (r .height) (r .depth) t (e .pixels))
 
--- g is read as f was, and its rows are isolated: the decoder is lent each file, what the reader gave for it, and buffers that fit,
--- with any content
+-- g is read as f was, and its rows are isolated: the decoder is lent each file, what the reader gave for it, and buffers of the
+-- right length, whatever these held before
 pub record Isolated (f g lent : List ℕ) (Chosen : ℕ → ℕ → Type 0) : Type 0 where
   pub read : reading g lent ≡ reading f lent
   pub rows : (k : ℕ) → k < reading f lent .answer .rows → (pixels marks pixels' marks' : List ℕ)

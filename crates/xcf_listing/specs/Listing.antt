@@ -9,7 +9,7 @@ use lib.Dec.{leb, eqb}
 use Rattle.xcf_numbers.specs.Limit.{tableSize}
 use Rattle.xcf_numbers.specs.Refusal
 use Rattle.xcf_store.specs.Pointer.{pointerSize}
-use Rattle.xcf_read.specs.Answer.{refusal, Reading, reading, refusals}
+use Rattle.xcf_read.specs.Answer.{refusal, Reading, reading}
 use Rattle.xcf_decode.specs.Answer.{counting}
 use Rattle.xcf_listing.specs.declared.ListAnswer.{ListAnswer}
 use Rattle.xcf_line.specs.Line.{refusedLine, canvasLine}
@@ -79,12 +79,9 @@ listing limit file table text =
     (record { answer = answerOf file x; table = x .table; text = lines ++ drop (length lines) text })
     (record { answer = notListed; table = table; text = text })
 
--- the numbers that the call answers, and those of a file's verdict
+-- the numbers that the call answers
 abbrev pub listerNumbers : List ℕ
 listerNumbers = Refusal.accepted ∷ Refusal.wrongBuffer ∷ []
-
-abbrev pub verdictNumbers : List ℕ
-verdictNumbers = Refusal.accepted ∷ Refusal.tooLong ∷ refusals
 
 -- the promise: the answer r, and the new content of table and text
 pub record Lists (limit : ℕ) (file oldTable oldText : List ℕ) (r : ListAnswer) (newTable newText : List ℕ) : Type 0 where

@@ -1,5 +1,8 @@
 -- The numbers of refusals (RULES, "Numbers").
 use Prim.Native.Nat.{ℕ}
+use mathlib.Core.List.{List, [], _∷_}
+use mathlib.Core.Bool.{Bool, false, _||_}
+use lib.Dec.{eqb}
 
 abbrev pub accepted : ℕ
 accepted = 0
@@ -75,3 +78,8 @@ badRow = 17
 -- what is to be written exceeds the lent output, or a file the limit
 abbrev pub noRoom : ℕ
 noRoom = 18
+
+-- whether a number is one of a list
+unfoldable pub listed : List ℕ → ℕ → Bool
+listed [] n = false
+listed (m ∷ ms) n = eqb n m || listed ms n

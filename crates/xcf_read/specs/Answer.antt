@@ -2,7 +2,7 @@
 use Prim.Native.Nat.{ℕ}
 use mathlib.Core.Path.{_≡_}
 use mathlib.Core.List.{List, [], _∷_}
-use mathlib.Core.Bool.{Bool, false, cond, _||_}
+use mathlib.Core.Bool.{cond}
 use lib.ListN.{length}
 use lib.Dec.{leb, eqb}
 use Rattle.xcf_numbers.specs.Limit.{fileLimit, tableSize}
@@ -53,9 +53,12 @@ refusals =
     Refusal.pastEnd ∷ Refusal.notXcf ∷ Refusal.badVersion ∷ Refusal.badSide ∷ Refusal.badBase ∷ Refusal.badLength ∷ Refusal.badContent
     ∷ Refusal.tooMany ∷ Refusal.noPointer ∷ Refusal.disagrees ∷ Refusal.unendedString ∷ Refusal.badTilePointer ∷ Refusal.floating ∷ []
 
-unfoldable pub listed : List ℕ → ℕ → Bool
-listed [] n = false
-listed (m ∷ ms) n = eqb n m || listed ms n
+-- the numbers of a verdict on a file, and all that the reader answers
+abbrev pub verdictNumbers : List ℕ
+verdictNumbers = Refusal.accepted ∷ Refusal.tooLong ∷ refusals
+
+abbrev pub readerNumbers : List ℕ
+readerNumbers = Refusal.wrongBuffer ∷ verdictNumbers
 
 -- the reader's promise for a file and a lent table: its answer r, and the table's new content
 pub record Read (file old : List ℕ) (r : ReadAnswer) (new : List ℕ) : Type 0 where

@@ -10,11 +10,12 @@ use borrow.Author.Tests.{le-leb, leb-true, eq-eqb, eqb-true}
 use lib.Dec.{leb, eqb}
 use lib.ListN.{length}
 use Rattle.xcf_numbers.specs.Limit.{fileLimit, tableSize}
+use Rattle.xcf_numbers.specs.Refusal.{listed}
 use Rattle.xcf_walk.specs.Walk.{Outcome, got, refused, run}
 use Rattle.xcf_laws.proofs.Cases.{by-cases}
 use Rattle.xcf_store.specs.Pointer.{pointerSize}
 use Rattle.xcf_read.specs.Image.{Image, image}
-use Rattle.xcf_read.specs.Answer.{listed, Reading, readingOf, reading}
+use Rattle.xcf_read.specs.Answer.{Reading, readingOf, reading}
 use Rattle.xcf_read_laws.proofs.Numbers.{refusals-listed}
 
 -- neither 11 nor 15

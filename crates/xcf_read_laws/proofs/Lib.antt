@@ -1,4 +1,5 @@
 pub mod Numbers
+pub mod ReaderNumbers
 pub mod Accepted
 pub mod Ranges
 pub mod AcceptedRows

@@ -7,6 +7,7 @@ use mathlib.Core.Bool.{true}
 use lib.Dec.{eqb}
 use Rattle.xcf_numbers.specs.Limit.{layerLimit, channelLimit}
 use Rattle.xcf_numbers.specs.Refusal
+use Rattle.xcf_numbers.specs.Refusal.{listed}
 use Rattle.xcf_walk.specs.Walk.{Walk, refused, run}
 use Rattle.xcf_walk.specs.Fields.{number, word, string}
 use Rattle.xcf_property.specs.declared.Properties.{Properties}
@@ -25,7 +26,7 @@ use Rattle.xcf_parse.specs.Drawable.{side, sideLike, layerType, fields, layer, 
 use Rattle.xcf_read.specs.Drawable.{channelRows, maskRows, layerRows, canvasChannelRows}
 use Rattle.xcf_parse.specs.Image.{baseType, head}
 use Rattle.xcf_read.specs.Image.{pointers, drawables, image}
-use Rattle.xcf_read.specs.Answer.{refusals, listed}
+use Rattle.xcf_read.specs.Answer.{refusals}
 
 abbrev pub Numbered : {A : Type 0} → Walk A → Type 0
 Numbered w = Refuses (λ n. listed refusals n ≡ true) w

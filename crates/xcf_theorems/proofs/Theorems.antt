@@ -16,57 +16,56 @@ use Rattle.xcf_segment.proofs.Bound.{bound}
 use Rattle.xcf_encode_laws.proofs.ReadBack.{stream-read-back}
 use Rattle.xcf_encode.proofs.TileBound.{tile-bound}
 use Rattle.xcf_encode_laws.proofs.TileReadBack.{tile-read-back}
+use Rattle.xcf_encode_laws.proofs.EncoderNumbers.{encoder-listed}
 use Rattle.xcf_walk_laws.proofs.Depends.{outcome-depends}
 use Rattle.xcf_read_laws.proofs.Accepted.{accepted-exactly}
 use Rattle.xcf_read_laws.proofs.ReadDepends.{read-depends}
 use Rattle.xcf_read_laws.proofs.Numbers.{refusals-listed}
+use Rattle.xcf_read_laws.proofs.ReaderNumbers.{reader-listed}
 use Rattle.xcf_tile_laws.proofs.Marks.{mark-listed}
+use Rattle.xcf_tile_laws.proofs.TileNumbers.{tile-listed}
+use Rattle.xcf_tile_laws.proofs.GoodWhenValid.{tile-good-when-valid as good-when-valid}
 use Rattle.xcf_grid.proofs.PixelLaws.{pixel-byte, one-tile, tile-shown}
 use Rattle.xcf_decode_laws.proofs.Counted.{count-decoded}
-use Rattle.xcf_decode_laws.proofs.Refused.{decoder-listed}
+use Rattle.xcf_decode_laws.proofs.Refused.{decoder-listed, counter-listed}
+use Rattle.xcf_decode_laws.proofs.TilesGood.{drawable-good-when-valid}
 use Rattle.xcf_decode_laws.proofs.RowDecoded.{row-decoded}
 use Rattle.xcf_isolation.proofs.Isolated.{isolated}
 use Rattle.xcf_theorems.proofs.WriterNumbers.{writer-listed}
-use Rattle.xcf_theorems.proofs.ListerNumbers.{lister-listed}
+use Rattle.xcf_theorems.proofs.ListerNumbers.{lister-listed, lister-as-reader}
 use Rattle.xcf_round_trip.proofs.RoundTrip.{round-trip}
 use Rattle.xcf_round_trip.proofs.GivenTaken.{given-is-taken}
 use Rattle.xcf_round_trip.proofs.TakenExcepted.{taken-is-excepted}
 use Rattle.xcf_theorems.proofs.ExampleRead.{example-read}
 use Rattle.xcf_theorems.proofs.ExampleWritten.{example-written}
 use Rattle.xcf_theorems.proofs.ExampleDamaged.{example-damaged}
-use Rattle.xcf_theorems.specs.Statements.{ExamplesHold, PassedBytesDecide, StructureBytesDecide, RefusalsAreListed, AcceptedWithoutFault, ExampleFileIsRead, WrittenReadsBack, GivenRowsAreTaken, TakenRowsAreExcepted, ExampleFileIsWritten, WriterRefusalsAreListed, ListerRefusalsAreListed, DamageIsIsolated, ExampleIsDamaged, AcceptedRowsDecode, PixelsAreTheirTiles, EachPixelHasOneTile, TilesAreShown, DecoderRefusalsAreListed, CountIsTheDecoders, MarksAreListed, ConsumedBytesDecide, ConsumedBytesDecideTheCall, PixelsAreStreams, PixelsAreWhole, MarkedPixelsAreZero, EncodedStreamBounded, StreamReadsBack, TileReadsBack, EncodedTileFits}
+use Rattle.xcf_theorems.specs.Statements.{ReaderRefusalsAreListed, RefusalsAreListed, PassedBytesDecide, DecoderRefusalsAreListed, CounterRefusalsAreListed, TileRefusalsAreListed, MarksAreListed, EncoderRefusalsAreListed, WriterRefusalsAreListed, ListerRefusalsAreListed, ListerAnswersAsTheReader, AcceptedWithoutFault, AcceptedRowsDecode, TileGoodWhenValid, DrawableTilesGoodWhenValid, CountIsTheDecoders, PixelsAreWhole, MarkedPixelsAreZero, PixelsAreStreams, PixelsAreTheirTiles, EachPixelHasOneTile, TilesAreShown, WrittenReadsBack, GivenRowsAreTaken, TakenRowsAreExcepted, EncodedStreamBounded, StreamReadsBack, TileReadsBack, EncodedTileFits, DamageIsIsolated, ExampleIsDamaged, StructureBytesDecide, ConsumedBytesDecide, ConsumedBytesDecideTheCall, ExamplesHold, ExampleFileIsRead, ExampleFileIsWritten}
 
-pub examples-hold : ExamplesHold
-unfolding headOf headAt operationOf operationAt streamFrom streamWithin streamAt streamsAt pixel interleave encodedTile tileIn tileOf leading equalBytes copiedBytes firstSegment segmentsWithin segments segmentBytes flatMap encodeStream
-examples-hold =
-    (refl, (refl, (refl, (refl, (refl, (refl, (refl, (refl, (refl, (refl, (refl, (refl, ((refl, (refl, refl)), tt)))))))))))))
+-- ## Any bytes
 
-pub passed-bytes-decide : PassedBytesDecide
-passed-bytes-decide A = outcome-depends
-
-pub structure-bytes-decide : StructureBytesDecide
-structure-bytes-decide = read-depends
+pub reader-refusals-are-listed : ReaderRefusalsAreListed
+reader-refusals-are-listed = reader-listed
 
 pub refusals-are-listed : RefusalsAreListed
 refusals-are-listed = refusals-listed pointerSize (omega arith)
 
-pub accepted-without-fault : AcceptedWithoutFault
-accepted-without-fault = accepted-exactly
+pub passed-bytes-decide : PassedBytesDecide
+passed-bytes-decide A = outcome-depends
 
-pub example-file-is-read : ExampleFileIsRead
-example-file-is-read = example-read
+pub decoder-refusals-are-listed : DecoderRefusalsAreListed
+decoder-refusals-are-listed = decoder-listed
 
-pub written-reads-back : WrittenReadsBack
-written-reads-back = round-trip
+pub counter-refusals-are-listed : CounterRefusalsAreListed
+counter-refusals-are-listed = counter-listed
 
-pub given-rows-are-taken : GivenRowsAreTaken
-given-rows-are-taken = given-is-taken
+pub tile-refusals-are-listed : TileRefusalsAreListed
+tile-refusals-are-listed = tile-listed
 
-pub taken-rows-are-excepted : TakenRowsAreExcepted
-taken-rows-are-excepted = taken-is-excepted
+pub marks-are-listed : MarksAreListed
+marks-are-listed = mark-listed
 
-pub example-file-is-written : ExampleFileIsWritten
-example-file-is-written = example-written
+pub encoder-refusals-are-listed : EncoderRefusalsAreListed
+encoder-refusals-are-listed = encoder-listed
 
 pub writer-refusals-are-listed : WriterRefusalsAreListed
 writer-refusals-are-listed = writer-listed
@@ -74,14 +73,34 @@ writer-refusals-are-listed = writer-listed
 pub lister-refusals-are-listed : ListerRefusalsAreListed
 lister-refusals-are-listed = lister-listed
 
-pub damage-is-isolated : DamageIsIsolated
-damage-is-isolated = isolated
+pub lister-answers-as-the-reader : ListerAnswersAsTheReader
+lister-answers-as-the-reader = lister-as-reader
 
-pub example-is-damaged : ExampleIsDamaged
-example-is-damaged = example-damaged
+-- ## Exactness
+
+pub accepted-without-fault : AcceptedWithoutFault
+accepted-without-fault = accepted-exactly
 
 pub accepted-rows-decode : AcceptedRowsDecode
 accepted-rows-decode = row-decoded
+
+pub tile-good-when-valid : TileGoodWhenValid
+tile-good-when-valid = good-when-valid
+
+pub drawable-tiles-good-when-valid : DrawableTilesGoodWhenValid
+drawable-tiles-good-when-valid = drawable-good-when-valid
+
+pub count-is-the-decoders : CountIsTheDecoders
+count-is-the-decoders = count-decoded
+
+pub pixels-are-whole : PixelsAreWhole
+pixels-are-whole = pixels-length
+
+pub marked-pixels-are-zero : MarkedPixelsAreZero
+marked-pixels-are-zero = marked-zero
+
+pub pixels-are-streams : PixelsAreStreams
+pixels-are-streams = streams-give-pixels
 
 pub pixels-are-their-tiles : PixelsAreTheirTiles
 pixels-are-their-tiles = pixel-byte
@@ -92,31 +111,14 @@ each-pixel-has-one-tile = one-tile
 pub tiles-are-shown : TilesAreShown
 tiles-are-shown = tile-shown
 
-pub decoder-refusals-are-listed : DecoderRefusalsAreListed
-decoder-refusals-are-listed = decoder-listed
+pub written-reads-back : WrittenReadsBack
+written-reads-back = round-trip
 
-pub count-is-the-decoders : CountIsTheDecoders
-count-is-the-decoders = count-decoded
+pub given-rows-are-taken : GivenRowsAreTaken
+given-rows-are-taken = given-is-taken
 
-pub marks-are-listed : MarksAreListed
-marks-are-listed = mark-listed
-
-pub consumed-bytes-decide : ConsumedBytesDecide
-consumed-bytes-decide = consumed-decides
-
-pub consumed-bytes-decide-the-call : ConsumedBytesDecideTheCall
-consumed-bytes-decide-the-call window other w h depth compression good long same old new answer d =
-    let e = consumed-decides window other w h depth compression good long same in
-    record { answer = rw e (d .answer); pixels = rw e (d .pixels) }
-
-pub pixels-are-streams : PixelsAreStreams
-pixels-are-streams = streams-give-pixels
-
-pub pixels-are-whole : PixelsAreWhole
-pixels-are-whole = pixels-length
-
-pub marked-pixels-are-zero : MarkedPixelsAreZero
-marked-pixels-are-zero = marked-zero
+pub taken-rows-are-excepted : TakenRowsAreExcepted
+taken-rows-are-excepted = taken-is-excepted
 
 pub encoded-stream-bounded : EncodedStreamBounded
 encoded-stream-bounded = bound
@@ -130,3 +132,35 @@ tile-reads-back = tile-read-back
 pub encoded-tile-fits : EncodedTileFits
 encoded-tile-fits w h depth pixels wide high deep =
     let most = tile-bound _ depth pixels (mul-le-mul wide high) deep in (most, omega (arith, most))
+
+-- ## Isolation
+
+pub damage-is-isolated : DamageIsIsolated
+damage-is-isolated = isolated
+
+pub example-is-damaged : ExampleIsDamaged
+example-is-damaged = example-damaged
+
+pub structure-bytes-decide : StructureBytesDecide
+structure-bytes-decide = read-depends
+
+pub consumed-bytes-decide : ConsumedBytesDecide
+consumed-bytes-decide = consumed-decides
+
+pub consumed-bytes-decide-the-call : ConsumedBytesDecideTheCall
+consumed-bytes-decide-the-call window other w h depth compression good long same old new answer d =
+    let e = consumed-decides window other w h depth compression good long same in
+    record { answer = rw e (d .answer); pixels = rw e (d .pixels) }
+
+-- ## Examples
+
+pub examples-hold : ExamplesHold
+unfolding headOf headAt operationOf operationAt streamFrom streamWithin streamAt streamsAt pixel interleave encodedTile tileIn tileOf leading equalBytes copiedBytes firstSegment segmentsWithin segments segmentBytes flatMap encodeStream
+examples-hold =
+    (refl, (refl, (refl, (refl, (refl, (refl, (refl, (refl, (refl, (refl, (refl, (refl, ((refl, (refl, refl)), tt)))))))))))))
+
+pub example-file-is-read : ExampleFileIsRead
+example-file-is-read = example-read
+
+pub example-file-is-written : ExampleFileIsWritten
+example-file-is-written = example-written

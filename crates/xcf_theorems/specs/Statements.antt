@@ -1,4 +1,5 @@
--- The theorems of the library, each in full. `proofs/Theorems.antt` proves each by a citation.
+-- The theorems of the library, each in full, under the three promises that they are about, "Any bytes", "Exactness" and "Isolation", and
+-- the worked examples. `proofs/Theorems.antt` proves each by a citation.
 use mathlib.Core.Path.{_≡_}
 use mathlib.Core.Bool.{true}
 use mathlib.Core.Logic.{_⊎_}
@@ -7,35 +8,46 @@ use Prim.Native.Nat.{ℕ, _+_, _-_, _*_, _/_, _≤_, _<_}
 use lib.ListN.{length, getD, take, drop, replicate}
 use Rattle.xcf_numbers.specs.Limit.{fileLimit, depthLimit, rowSize, tableSize, tileSide, encodedSize, windowLimit}
 use Rattle.xcf_numbers.specs.Mark
+use Rattle.xcf_numbers.specs.Refusal.{listed}
 use Rattle.xcf_stream.specs.Stream.{streamAt}
 use Rattle.xcf_stream.specs.Streams.{streamsAt}
 use Rattle.xcf_tile.specs.Tile.{tileOf}
 use Rattle.xcf_tile.specs.declared.TileAnswer.{TileAnswer}
-use Rattle.xcf_tile.specs.Answer.{Decoded}
+use Rattle.xcf_tile.specs.Answer.{tileNumbers, decodeRefusal, decodeAnswer, Decoded}
+use Rattle.xcf_tile_laws.specs.Valid.{GoodWhenValid}
 use Rattle.xcf_segment.specs.Segment.{segments, encodeStream}
 use Rattle.xcf_encode.specs.Tile.{planes, operationsOf, encodeTile}
+use Rattle.xcf_encode.specs.Answer.{encoderNumbers, tileRefusal, encodeAnswer}
 use Rattle.xcf_walk.specs.Walk.{Walk, got, refused, run, PassedOver}
 use Rattle.xcf_table.specs.Table.{rowAt}
 use Rattle.xcf_store.specs.Pointer.{pointerSize}
 use Rattle.xcf_read.specs.Image.{Image, image, structureByte}
-use Rattle.xcf_read.specs.Answer.{refusals, listed, reading, rowOf}
+use Rattle.xcf_read.specs.Answer.{refusals, verdictNumbers, readerNumbers, reading, rowOf}
 use Rattle.xcf_grid.specs.Grid.{tileWidth, tileHeight, tileCount}
 use Rattle.xcf_grid.specs.Pixels.{HasPixel, tileAt, byteOf, byteIn, pixelsOf, shown}
+use Rattle.xcf_window.specs.Window.{window}
 use Rattle.xcf_window.specs.Usable.{fits}
 use Rattle.xcf_decode.specs.Answer.{decoderNumbers, rowDecoding, decoding, counting}
 use Rattle.xcf_isolation.specs.Isolation.{Isolation}
 use Rattle.xcf_table.specs.declared.canvas.Canvas.{Canvas}
 use Rattle.xcf_write.specs.Answer.{writing, writerNumbers}
-use Rattle.xcf_listing.specs.Listing.{listAnswer, listerNumbers}
+use Rattle.xcf_listing.specs.Listing.{textSize, listing, listerNumbers}
 use Rattle.xcf_round_trip.specs.RoundTrip.{RoundTrip}
 use Rattle.xcf_round_trip.specs.Taken.{GivenIsTaken, TakenIsExcepted}
 use Rattle.xcf_theorems.specs.DamagedExample.{DamagedExample}
 use Rattle.xcf_theorems.specs.ExampleFile.{exampleFile, exampleRow, exampleTable}
 use Rattle.xcf_theorems.specs.Examples.{table, All}
 
--- The worked examples hold (RULES, "Examples").
-abbrev pub ExamplesHold : Type 0
-ExamplesHold = All table
+-- ## Any bytes
+-- Whatever it is lent, each exported call answers a number of its list (RULES, "Any bytes").
+
+-- The reader answers 0, 11, 15 or a number of its walk.
+abbrev pub ReaderRefusalsAreListed : Type 0
+ReaderRefusalsAreListed = (file table : List ℕ) → listed readerNumbers (reading file table .answer .number) ≡ true
+
+-- The walk refuses with 1 to 10, 12, 13 or 16.
+abbrev pub RefusalsAreListed : Type 0
+RefusalsAreListed = (file : List ℕ) (n p : ℕ) → refused n p ≡ run (image pointerSize) file 0 → listed refusals n ≡ true
 
 -- What any walk gives depends on the file's length and on the bytes that it passes over.
 abbrev pub PassedBytesDecide : Type 1
@@ -44,16 +56,56 @@ PassedBytesDecide =
     → ((i : ℕ) → PassedOver w file at i → getD file i 0 ≡ getD other i 0)
     → run w file at ≡ run w other at
 
--- So for one lent table, what the reader answers and leaves there depends on the file's length and its structure bytes.
-abbrev pub StructureBytesDecide : Type 0
-StructureBytesDecide =
-    (file other table : List ℕ) → length file ≡ length other
-    → ((i : ℕ) → structureByte pointerSize file i → getD file i 0 ≡ getD other i 0)
-    → reading file table ≡ reading other table
+-- The decoder answers 0, 11, 13, 14 or 15.
+abbrev pub DecoderRefusalsAreListed : Type 0
+DecoderRefusalsAreListed =
+    (size : ℕ) (file table : List ℕ) (k compression : ℕ) (pixels marks : List ℕ)
+    → listed decoderNumbers (decoding size file table k compression pixels marks .answer .number) ≡ true
 
--- A refusal of the walk has one of the reader's numbers (RULES, "Numbers").
-abbrev pub RefusalsAreListed : Type 0
-RefusalsAreListed = (file : List ℕ) (n p : ℕ) → refused n p ≡ run (image pointerSize) file 0 → listed refusals n ≡ true
+-- And so does the count of marked tiles, which asks for no buffers.
+abbrev pub CounterRefusalsAreListed : Type 0
+CounterRefusalsAreListed =
+    (size : ℕ) (file table : List ℕ) (k compression : ℕ) → listed decoderNumbers (counting size file table k compression .number) ≡ true
+
+-- The decoder of a single tile answers 0, 11 or 14.
+abbrev pub TileRefusalsAreListed : Type 0
+TileRefusalsAreListed =
+    (window : List ℕ) (w h depth compression : ℕ) (pixels : List ℕ)
+    → listed tileNumbers (decodeAnswer (decodeRefusal w h depth compression (length pixels)) (tileOf window w h depth compression) .number) ≡ true
+
+-- A tile's mark is 0, 20 or 21.
+abbrev pub MarksAreListed : Type 0
+MarksAreListed =
+    (window : List ℕ) (w h depth compression : ℕ) →
+    let m = tileOf window w h depth compression .mark in (m ≡ 0) ⊎ ((m ≡ Mark.short) ⊎ (m ≡ Mark.overrun))
+
+-- The encoder of a tile answers 0, 11, 14 or 18.
+abbrev pub EncoderRefusalsAreListed : Type 0
+EncoderRefusalsAreListed =
+    (pixels : List ℕ) (w h depth : ℕ) (output : List ℕ)
+    → listed encoderNumbers (encodeAnswer (tileRefusal w h depth pixels (length output)) (encodeTile (w * h) depth pixels) .number) ≡ true
+
+-- The writer answers 0, 4, 5, 11, 17 or 18.
+abbrev pub WriterRefusalsAreListed : Type 0
+WriterRefusalsAreListed =
+    (c : Canvas) (table names pixels output : List ℕ) → listed writerNumbers (writing c table names pixels output .answer .number) ≡ true
+
+-- The lister answers 0 or 11, and its verdict on the file is 0, 15 or a number of the reader's walk.
+abbrev pub ListerRefusalsAreListed : Type 0
+ListerRefusalsAreListed =
+    (limit : ℕ) (file table text : List ℕ) →
+    let a = listing limit file table text .answer in (listed listerNumbers (a .number) ≡ true) × (listed verdictNumbers (a .refused) ≡ true)
+
+-- With a table and a text that fit it answers 0, whatever the file, and says of it what the reader says.
+abbrev pub ListerAnswersAsTheReader : Type 0
+ListerAnswersAsTheReader =
+    (file table text : List ℕ) → length table ≡ tableSize → textSize ≤ length text →
+    let x = listing fileLimit file table text in
+    let r = reading file table in
+    (x .answer .number ≡ 0) × (x .answer .refused ≡ r .answer .number) × (x .answer .at ≡ r .answer .place) × (x .table ≡ r .table)
+
+-- ## Exactness
+-- What the rules let pass is taken, nothing else is, and what is written comes back (RULES, "Exactness").
 
 -- A file that is not too long, with a table of the right length, is accepted exactly when the walk meets no fault.
 abbrev pub AcceptedWithoutFault : Type 0
@@ -62,58 +114,6 @@ AcceptedWithoutFault =
     → (reading file table .answer .number ≡ 0 → (x : Image) × (q : ℕ) × (got x q ≡ run (image pointerSize) file 0))
     × ((x : Image) (q : ℕ) → got x q ≡ run (image pointerSize) file 0 → reading file table .answer .number ≡ 0)
 
--- The example file is accepted with its canvas and its row.
-abbrev pub ExampleFileIsRead : Type 0
-ExampleFileIsRead =
-    (table : List ℕ) → length table ≡ tableSize
-    → reading exampleFile table
-    ≡ record {
-      answer = record { number = 0; place = 0; width = 1; height = 1; base = 1; version = 0; compression = 1; rows = 1 };
-      table = exampleRow ++ replicate (tableSize - rowSize) 0;
-    }
-
--- RULES, "Exactness", of the writer: what it writes reads back as the same rows, names and pixels, with no tile marked; only the
--- rows' places differ. One claim over every input that the writer accepts, in full in `xcf_round_trip/specs/RoundTrip.antt`.
-abbrev pub WrittenReadsBack : Type 0
-WrittenReadsBack = RoundTrip
-
--- And no row that a reader gave is bad for the writer, but for what RULES, "Usable rows" adds; in full in
--- `xcf_round_trip/specs/Taken.antt`.
-abbrev pub GivenRowsAreTaken : Type 0
-GivenRowsAreTaken = GivenIsTaken
-
--- The other way round, where no row is bad, all that is added there holds of them.
-abbrev pub TakenRowsAreExcepted : Type 0
-TakenRowsAreExcepted = TakenIsExcepted
-
--- The example file is written byte for byte, and the output beyond it is unchanged.
-abbrev pub ExampleFileIsWritten : Type 0
-ExampleFileIsWritten =
-    (output : List ℕ) → 143 ≤ length output
-    → writing (record { width = 1; height = 1; base = 1 }) exampleTable (115 ∷ []) (255 ∷ []) output
-    ≡ record { answer = record { number = 0; place = 0; length = 143 }; output = exampleFile ++ drop 143 output }
-
--- The writer answers 0, 4, 5, 11, 17 or 18.
-abbrev pub WriterRefusalsAreListed : Type 0
-WriterRefusalsAreListed =
-    (c : Canvas) (table names pixels output : List ℕ) → listed writerNumbers (writing c table names pixels output .answer .number) ≡ true
-
--- What is answered beside a listing has number 0, 11, 15 or one of the walk's.
-abbrev pub ListerRefusalsAreListed : Type 0
-ListerRefusalsAreListed =
-    (limit : ℕ) (file table : List ℕ) (room : ℕ) → listed listerNumbers (listAnswer limit file table room .number) ≡ true
-
--- RULES, "Isolation": damage inside the windows of some tiles changes nothing outside them. One claim over all rows and tiles of any
--- accepted file, in full in `xcf_isolation/specs/Isolation.antt`.
-abbrev pub DamageIsIsolated : Type 1
-DamageIsIsolated = Isolation
-
--- It is not empty: a copy of a file of two tiles, with a byte of the first tile's window changed, is damaged so; that tile is good in
--- one file and marked in the other.
-abbrev pub ExampleIsDamaged : Type 0
-ExampleIsDamaged =
-    (lent pixels marks : List ℕ) → length lent ≡ tableSize → length pixels ≡ 65 → length marks ≡ 2 → DamagedExample lent pixels marks
-
 -- The decoder refuses no row of an accepted file, where the lent buffers fit.
 abbrev pub AcceptedRowsDecode : Type 0
 AcceptedRowsDecode =
@@ -121,6 +121,48 @@ AcceptedRowsDecode =
     let x = reading file lent in
     x .answer .number ≡ 0 → (k : ℕ) → k < x .answer .rows → (pixels marks : List ℕ) → fits (rowOf x k) (length pixels) (length marks) ≡ true
     → decoding pointerSize file (x .table) k (x .answer .compression) pixels marks ≡ rowDecoding pointerSize file (rowOf x k) (x .answer .compression)
+
+-- A tile is good exactly when its window begins with a valid encoding, and then shows that encoding's pixels; otherwise it is marked
+-- and its pixels are zero (in full in `xcf_tile_laws/specs/Valid.antt`): for every window, sides, depth and compression …
+abbrev pub TileGoodWhenValid : Type 0
+TileGoodWhenValid =
+    (window : List ℕ) (w h depth compression : ℕ) →
+    let t = tileOf window w h depth compression in GoodWhenValid window w h depth compression (t .mark) (t .pixels)
+
+-- … and for each tile of a drawable, in what the decoder leaves in buffers, whatever these held: every file, table and row that it
+-- does not refuse. Such is the row of the damaged file in `ExampleIsDamaged`: one of its tiles is good, one is marked.
+abbrev pub DrawableTilesGoodWhenValid : Type 0
+DrawableTilesGoodWhenValid =
+    (size : ℕ) (file table : List ℕ) (k compression : ℕ) (pixels marks : List ℕ) →
+    let r = rowAt table k in
+    let d = decoding size file table k compression pixels marks in
+    d .answer .number ≡ 0 → (t : ℕ) → t < r .count
+    → GoodWhenValid (window size file r t) (tileWidth (r .width) t) (tileHeight (r .width) (r .height) t) (r .depth) compression
+    (getD (d .marks) t 0) (shown (r .width) (r .height) (r .depth) t (d .pixels))
+
+-- The count of marked tiles that asks for no buffers is the decoder's.
+abbrev pub CountIsTheDecoders : Type 0
+CountIsTheDecoders =
+    (size : ℕ) (file table : List ℕ) (k compression : ℕ) (pixels marks : List ℕ) → fits (rowAt table k) (length pixels) (length marks) ≡ true
+    → counting size file table k compression ≡ decoding size file table k compression pixels marks .answer
+
+-- A tile has as many bytes as its pixels, marked or not.
+abbrev pub PixelsAreWhole : Type 0
+PixelsAreWhole = (window : List ℕ) (w h depth compression : ℕ) → length (tileOf window w h depth compression .pixels) ≡ w * h * depth
+
+-- All pixels of a marked tile are zero.
+abbrev pub MarkedPixelsAreZero : Type 0
+MarkedPixelsAreZero =
+    (window : List ℕ) (w h depth compression : ℕ) →
+    let t = tileOf window w h depth compression in (t .mark ≡ 0 → ⊥) → t .pixels ≡ replicate (w * h * depth) 0
+
+-- Byte m of pixel i of a good encoded tile is byte i of its stream m.
+abbrev pub PixelsAreStreams : Type 0
+PixelsAreStreams =
+    (window : List ℕ) (w h depth m i : ℕ) →
+    let s = streamsAt depth (take windowLimit window) 0 (w * h) in
+    let t = tileOf window w h depth 1 in
+    t .mark ≡ 0 → m < depth → i < w * h → getD (t .pixels) (m + depth * i) 0 ≡ getD (getD (s .planes) m []) i 0
 
 -- Byte k of pixel (x, y) of a drawable is byte k of that pixel in its own tile.
 abbrev pub PixelsAreTheirTiles : Type 0
@@ -143,57 +185,19 @@ TilesAreShown =
     → length (tiles t) ≡ tileWidth width t * tileHeight width height t * depth
     → shown width height depth t (pixelsOf tiles width height depth) ≡ tiles t
 
--- The decoder answers 0, 11, 13, 14 or 15.
-abbrev pub DecoderRefusalsAreListed : Type 0
-DecoderRefusalsAreListed =
-    (size : ℕ) (file table : List ℕ) (k compression : ℕ) (pixels marks : List ℕ)
-    → listed decoderNumbers (decoding size file table k compression pixels marks .answer .number) ≡ true
+-- What the writer writes reads back as the same rows, names and pixels, with no tile marked; only the rows' places differ. One claim
+-- over every input that the writer accepts, in full in `xcf_round_trip/specs/RoundTrip.antt`.
+abbrev pub WrittenReadsBack : Type 0
+WrittenReadsBack = RoundTrip
 
--- The count of marked tiles that asks for no buffers is the decoder's.
-abbrev pub CountIsTheDecoders : Type 0
-CountIsTheDecoders =
-    (size : ℕ) (file table : List ℕ) (k compression : ℕ) (pixels marks : List ℕ) → fits (rowAt table k) (length pixels) (length marks) ≡ true
-    → counting size file table k compression ≡ decoding size file table k compression pixels marks .answer
+-- And no row that a reader gave is bad for the writer, but for what RULES, "Usable rows" adds; in full in
+-- `xcf_round_trip/specs/Taken.antt`.
+abbrev pub GivenRowsAreTaken : Type 0
+GivenRowsAreTaken = GivenIsTaken
 
--- A tile's mark is 0, 20 or 21.
-abbrev pub MarksAreListed : Type 0
-MarksAreListed =
-    (window : List ℕ) (w h depth compression : ℕ) →
-    let m = tileOf window w h depth compression .mark in (m ≡ 0) ⊎ ((m ≡ Mark.short) ⊎ (m ≡ Mark.overrun))
-
--- A good tile depends only on the bytes it consumed: another window that has them first gives the same tile.
-abbrev pub ConsumedBytesDecide : Type 0
-ConsumedBytesDecide =
-    (window other : List ℕ) (w h depth compression : ℕ) →
-    let t = tileOf window w h depth compression in
-    t .mark ≡ 0 → t .consumed ≤ length other → take (t .consumed) window ≡ take (t .consumed) other →
-    tileOf other w h depth compression ≡ t
-
--- So a call with the other window gives the same answer and leaves the same pixels.
-abbrev pub ConsumedBytesDecideTheCall : Type 0
-ConsumedBytesDecideTheCall =
-    (window other : List ℕ) (w h depth compression : ℕ) →
-    let t = tileOf window w h depth compression in
-    t .mark ≡ 0 → t .consumed ≤ length other → take (t .consumed) window ≡ take (t .consumed) other →
-    (old new : List ℕ) (answer : TileAnswer) → Decoded window w h depth compression old answer new → Decoded other w h depth compression old answer new
-
--- Byte m of pixel i of a good encoded tile is byte i of its stream m.
-abbrev pub PixelsAreStreams : Type 0
-PixelsAreStreams =
-    (window : List ℕ) (w h depth m i : ℕ) →
-    let s = streamsAt depth (take windowLimit window) 0 (w * h) in
-    let t = tileOf window w h depth 1 in
-    t .mark ≡ 0 → m < depth → i < w * h → getD (t .pixels) (m + depth * i) 0 ≡ getD (getD (s .planes) m []) i 0
-
--- A tile has as many bytes as its pixels, marked or not.
-abbrev pub PixelsAreWhole : Type 0
-PixelsAreWhole = (window : List ℕ) (w h depth compression : ℕ) → length (tileOf window w h depth compression .pixels) ≡ w * h * depth
-
--- All pixels of a marked tile are zero.
-abbrev pub MarkedPixelsAreZero : Type 0
-MarkedPixelsAreZero =
-    (window : List ℕ) (w h depth compression : ℕ) →
-    let t = tileOf window w h depth compression in (t .mark ≡ 0 → ⊥) → t .pixels ≡ replicate (w * h * depth) 0
+-- The other way round, where no row is bad, all that is added there holds of them.
+abbrev pub TakenRowsAreExcepted : Type 0
+TakenRowsAreExcepted = TakenIsExcepted
 
 -- A stream of n bytes takes at most n + 3 + 2·⌊n/131⌋ bytes.
 abbrev pub EncodedStreamBounded : Type 0
@@ -224,3 +228,64 @@ abbrev pub EncodedTileFits : Type 0
 EncodedTileFits =
     (w h depth : ℕ) (pixels : List ℕ) → w ≤ tileSide → h ≤ tileSide → depth ≤ depthLimit →
     let size = length (encodeTile (w * h) depth pixels) in (size ≤ encodedSize) × (size < windowLimit)
+
+-- ## Isolation
+-- Damage stays where it is (RULES, "Isolation").
+
+-- Damage inside the windows of some tiles changes nothing outside them. One claim over all rows and tiles of any accepted file, in
+-- full in `xcf_isolation/specs/Isolation.antt`.
+abbrev pub DamageIsIsolated : Type 1
+DamageIsIsolated = Isolation
+
+-- It is not empty: a copy of a file of two tiles, with a byte of the first tile's window changed, is damaged so; that tile is good in
+-- one file and marked in the other.
+abbrev pub ExampleIsDamaged : Type 0
+ExampleIsDamaged =
+    (lent pixels marks : List ℕ) → length lent ≡ tableSize → length pixels ≡ 65 → length marks ≡ 2 → DamagedExample lent pixels marks
+
+-- For one lent table, what the reader answers and leaves there depends on the file's length and its structure bytes.
+abbrev pub StructureBytesDecide : Type 0
+StructureBytesDecide =
+    (file other table : List ℕ) → length file ≡ length other
+    → ((i : ℕ) → structureByte pointerSize file i → getD file i 0 ≡ getD other i 0)
+    → reading file table ≡ reading other table
+
+-- A good tile depends only on the bytes it consumed: another window that has them first gives the same tile.
+abbrev pub ConsumedBytesDecide : Type 0
+ConsumedBytesDecide =
+    (window other : List ℕ) (w h depth compression : ℕ) →
+    let t = tileOf window w h depth compression in
+    t .mark ≡ 0 → t .consumed ≤ length other → take (t .consumed) window ≡ take (t .consumed) other →
+    tileOf other w h depth compression ≡ t
+
+-- So a call with the other window gives the same answer and leaves the same pixels.
+abbrev pub ConsumedBytesDecideTheCall : Type 0
+ConsumedBytesDecideTheCall =
+    (window other : List ℕ) (w h depth compression : ℕ) →
+    let t = tileOf window w h depth compression in
+    t .mark ≡ 0 → t .consumed ≤ length other → take (t .consumed) window ≡ take (t .consumed) other →
+    (old new : List ℕ) (answer : TileAnswer) → Decoded window w h depth compression old answer new → Decoded other w h depth compression old answer new
+
+-- ## Examples
+-- Computed (RULES, "Examples").
+
+-- The worked examples hold.
+abbrev pub ExamplesHold : Type 0
+ExamplesHold = All table
+
+-- The example file is accepted with its canvas and its row.
+abbrev pub ExampleFileIsRead : Type 0
+ExampleFileIsRead =
+    (table : List ℕ) → length table ≡ tableSize
+    → reading exampleFile table
+    ≡ record {
+      answer = record { number = 0; place = 0; width = 1; height = 1; base = 1; version = 0; compression = 1; rows = 1 };
+      table = exampleRow ++ replicate (tableSize - rowSize) 0;
+    }
+
+-- The example file is written byte for byte, and the output beyond it is unchanged.
+abbrev pub ExampleFileIsWritten : Type 0
+ExampleFileIsWritten =
+    (output : List ℕ) → 143 ≤ length output
+    → writing (record { width = 1; height = 1; base = 1 }) exampleTable (115 ∷ []) (255 ∷ []) output
+    ≡ record { answer = record { number = 0; place = 0; length = 143 }; output = exampleFile ++ drop 143 output }

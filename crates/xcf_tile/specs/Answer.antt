@@ -1,7 +1,7 @@
 -- What a call for a single tile answers and leaves in the pixel buffer.
 use mathlib.Core.Path.{_≡_}
 use Prim.Native.Nat.{ℕ, _*_}
-use mathlib.Core.List.{List}
+use mathlib.Core.List.{List, [], _∷_}
 use mathlib.Core.Bool.{Bool, cond, _&&_}
 use lib.ListN.{length}
 use lib.Dec.{leb, eqb}
@@ -19,6 +19,10 @@ usableTile w h depth = within 1 tileSide w && within 1 tileSide h && within 1 de
 unfoldable pub decodeRefusal : ℕ → ℕ → ℕ → ℕ → ℕ → ℕ
 decodeRefusal w h depth compression len =
     cond (usableTile w h depth && leb compression 1) (cond (eqb len (w * h * depth)) Refusal.accepted Refusal.wrongBuffer) Refusal.unusable
+
+-- the numbers that it answers
+abbrev pub tileNumbers : List ℕ
+tileNumbers = Refusal.accepted ∷ Refusal.wrongBuffer ∷ Refusal.unusable ∷ []
 
 -- a refusal's other fields are 0
 unfoldable pub decodeAnswer : ℕ → Tile → TileAnswer

@@ -10,9 +10,9 @@ use native.Mathlib.Omega.{arith}
 use lib.ListN.{length, take}
 use lib.Seq.{length-take-le, take-take}
 use Rattle.xcf_tile.specs.Tile.{Tile, tileOf}
 use Rattle.xcf_tile_laws.proofs.Consumed.{consumed-decides, consumed-inside}
 use Rattle.xcf_tile_laws.proofs.Pixels.{marked-zero}
-use Rattle.xcf_isolation.specs.Isolation.{BeginsWith, GoodWhenValid}
+use Rattle.xcf_tile_laws.specs.Valid.{BeginsWith, GoodWhenValid}
 
 module _ (window : List ℕ) (w h depth compression : ℕ) where
   -- the tile of these sizes in some bytes

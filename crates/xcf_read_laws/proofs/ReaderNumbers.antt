@@ -1,0 +1,49 @@
+-- The reader answers a listed number (`reader-listed`): the 11 of a table, or a verdict on the file, 0, 15 or a number of its walk
+-- (`verdict-listed`); by the tests of their lengths.
+-- Assumes nothing.
+use Prim.Native.Nat.{ℕ}
+use mathlib.Core.Path.{_≡_, refl}
+use mathlib.Core.List.{List}
+use mathlib.Core.Bool.{true, or-true}
+use lib.Dec.{leb, eqb}
+use lib.ListN.{length}
+use native.Mathlib.Omega.{arith}
+use borrow.Author.Tests.{eq-eqb, eqb-true}
+use Rattle.xcf_numbers.specs.Limit.{fileLimit, tableSize}
+use Rattle.xcf_numbers.specs.Refusal.{listed}
+use Rattle.xcf_walk.specs.Walk.{Outcome, got, refused, run}
+use Rattle.xcf_laws.proofs.Cases.{by-cases}
+use Rattle.xcf_store.specs.Pointer.{pointerSize}
+use Rattle.xcf_read.specs.Image.{Image, image}
+use Rattle.xcf_read.specs.Answer.{refusals, verdictNumbers, readerNumbers, Reading, readingOf, reading}
+use Rattle.xcf_read_laws.proofs.Numbers.{refusals-listed}
+
+-- a reading whose number is a verdict's, and one whose number is the reader's
+abbrev Verdict : Reading → Type 0
+Verdict x = listed verdictNumbers (x .answer .number) ≡ true
+
+abbrev Listed : Reading → Type 0
+Listed x = listed readerNumbers (x .answer .number) ≡ true
+
+walk-listed : (x : Outcome Image) → ((n p : ℕ) → refused n p ≡ x → listed refusals n ≡ true) → Verdict (readingOf x)
+unfolding listed
+walk-listed (got x q) h = refl
+walk-listed (refused n p) h = rw (h n p refl, or-true, or-true)
+
+pub verdict-listed : (file table : List ℕ) → length table ≡ tableSize → listed verdictNumbers (reading file table .answer .number) ≡ true
+unfolding reading listed
+verdict-listed file table fit =
+    rw (eq-eqb _ _ fit)
+    (by-cases Verdict (leb (length file) fileLimit) _ _
+    (λ _. walk-listed (run (image pointerSize) file 0) (refusals-listed pointerSize (omega arith) file)) (λ _. refl))
+
+-- a verdict is one of the reader's answers
+verdict-answered : (n : ℕ) → listed verdictNumbers n ≡ true → listed readerNumbers n ≡ true
+unfolding listed
+verdict-answered n e = rw (e, or-true)
+
+pub reader-listed : (file table : List ℕ) → listed readerNumbers (reading file table .answer .number) ≡ true
+unfolding reading listed
+reader-listed file table =
+    by-cases Listed (eqb (length table) tableSize) _ _
+    (λ fit. verdict-answered _ (rw fit at (verdict-listed file table (eqb-true _ _ fit)))) (λ _. refl)
