@@ -1,31 +1,40 @@
-/* XCF files, read, listed and written; their drawables, decoded; XCF tiles, decoded and encoded. Every function ends, touches
- * only what it is lent, and answers by value.
+/* XCF files: read, listed, decoded and written; single tiles of them: decoded and encoded. docs/RULES.md has the rules.
  *
- * A pointer is never NULL, also where its length is 0; a buffer that is written overlaps no other. Nothing else is asked of
- * a caller: any bytes and any numbers may be lent.
+ * Lending. No pointer is NULL, not even one whose length is 0, and no buffer that is written overlaps another. Apart from
+ * this, any bytes, numbers and lengths may be given: every call ends, touches only what it was lent, and returns a struct.
  *
- * number is 0, or says why the call was refused; a refusal leaves every buffer as lent, unless said otherwise, and its other
- * fields are 0. place is where in the file the fault stands, or would stand if it were written: 0 for tiles, and the number
- * of the row for 17.
- *    1  a field or payload runs past the file's end
- *    2  the first 9 bytes are not "gimp xcf "
- *    3  bytes 9 to 13 are not "file", "v001", "v002" or "v003" and a zero
- *    4  a side is 0 or above 16,384; for the writer one of the canvas, at 14 (width) or 18 (height)
- *    5  the base type is above 2, or 2 in version 0; for the writer above 1, at 22
- *    6  a known property has a wrong length
- *    7  a property's content is not allowed
- *    8  a 49th layer or 33rd channel
- *    9  a hierarchy or first level pointer is 0
- *   10  a type, size or depth disagrees with its owner
- *   11  a lent buffer has the wrong length
- *   12  a string of nonzero length does not end in a zero byte
- *   13  a bad tile pointer or closing word
- *   14  the tile is unusable: sides are 1 to 64, depth is 1 to 4, compression is 0 (plain) or 1 (run-length encoded);
- *       or a row is, as said at xcf_decode
- *   15  the file is longer than 1,073,741,824 bytes
- *   16  a layer is a floating selection
- *   17  a row given to the writer is unusable, as said at xcf_write
- *   18  what is written would exceed the lent output, or a written file would exceed 1,073,741,824 bytes
+ * Refusals. number is 0 where the call did its work, and otherwise says why not; place then counts the file's bytes from 0,
+ * unless the table below has something else. All fields but these two are 0, and every buffer is as it was lent, but for the
+ * table of xcf_read (see there). Each call names its refusals in the order in which they are tested, an 11 with the buffer it
+ * is about; the first that applies is answered. A table of any length but XCF_TABLE_LENGTH is an 11. A word is 4 bytes of the
+ * file, the high one first.
+ *
+ *   No.  Why                                                              Place
+ *    1   the file ends before a field, string or payload does             where that begins
+ *    2   the file does not begin with "gimp xcf "                         0
+ *    3   the version in bytes 9 to 13 is none of the tags file, v001,     9
+ *        v002 and v003, followed by a zero byte
+ *    4   a side is not 1 to 16,384                                        its word; xcf_write: 14 width, 18 height
+ *    5   the base type exceeds 2, or is 2 in version 0;                   its word
+ *        xcf_write: it exceeds 1                                          22
+ *    6   the length of a property does not fit its type                   the length word
+ *    7   a payload has a value that is not allowed;                       the payload's first byte
+ *        an indexed image has no colour map                               the type word that ends the image's list
+ *    8   there are more than 48 layers or 32 channels                     the first pointer too many
+ *    9   the pointer to a hierarchy, or to its first level, is 0          that pointer
+ *   10   a layer's type is not one of the base type; the sides of a       the word
+ *        mask are not its layer's, or those of a channel the canvas's;
+ *        a size or depth in a hierarchy or level is not its drawable's
+ *   11   the length of a buffer does not fit                              0
+ *   12   a string of length 1 or more has a last byte other than zero     its length word
+ *   13   a tile pointer is 0, not above the one before it or not below    that word
+ *        the length of the file; the word behind the last is not 0
+ *   14   the row, tile or compression cannot be decoded or encoded        0
+ *   15   the file is longer than XCF_FILE_LIMIT                           0
+ *   16   a layer has the property of a floating selection                 that property's type word
+ *   17   a row cannot be written                                          the number of the row
+ *   18   the output is too short, or a file to be written would be        0
+ *        longer than XCF_FILE_LIMIT
  */
 #ifndef XCF_H
 #define XCF_H
@@ -37,9 +46,9 @@
 extern "C" {
 #endif
 
-/* Longer files are refused. */
+/* Bytes of the longest file that is read or written. */
 #define XCF_FILE_LIMIT 1073741824
-/* Numbers in a row, and in a table of 128 rows. */
+/* Numbers in a row, and in a table, which has 128 rows. */
 #define XCF_ROW_LENGTH 16
 #define XCF_TABLE_LENGTH 2048
 /* The side of a tile; those in the last column and line may be smaller. */
@@ -47,7 +56,11 @@ extern "C" {
 /* Bytes that hold any listing. */
 #define XCF_TEXT_LENGTH 65536
 
-/* mark is 0 for a good tile, 20 where the window ends too soon, 21 where an operation runs over the end of its stream. */
+/* mark        0: the tile is good. 20: its window ends before it does. 21: an operation gives more bytes than its stream
+ *             still takes
+ * consumed    how many bytes of the window a good tile took. For a marked one: where in the window the failing operation
+ *             begins, which is the window's end if its opcode is missing; 0 if the tile is plain
+ * operations  how many were carried out in full; 0 for a plain tile */
 typedef struct {
     uint64_t number;
     uint64_t place;
@@ -56,10 +69,10 @@ typedef struct {
     uint64_t operations;
 } xcf_tile_answer;
 
-/* Decodes the tile at the start of a window into exactly width * height * depth bytes, pixel by pixel. A window counts up to
- * its 24,576th byte. All pixels of a marked tile are zero. consumed is how many bytes of the window the tile took, or where
- * the failing operation starts; operations is how many were carried out in full. Both are 0 for a marked plain tile, and a
- * plain tile has no operations. */
+/* Decodes the tile that a window begins with, compression 0 plain or 1 run-length encoded. The pixels have exactly
+ * width * height * depth bytes: line by line from the top, each from the left, depth bytes for a pixel. Those of a marked
+ * tile are all set to zero. A window may have any length, but is cut to its first 24,576 bytes.
+ * Refused: 14 unless width and height are 1 to 64, depth is 1 to 4, and compression is 0 or 1; 11 pixels. */
 xcf_tile_answer xcf_decode_tile(const uint8_t *window, size_t window_length, uint32_t width, uint32_t height, uint32_t depth,
                                 uint32_t compression, uint8_t *pixels, size_t pixels_length);
 
@@ -69,13 +82,17 @@ typedef struct {
     uint64_t length;
 } xcf_encode_answer;
 
-/* Encodes exactly width * height * depth bytes of pixels at the start of the output. length is how many bytes were written;
- * the output beyond it is unchanged. 16,644 bytes hold the encoding of any tile. */
+/* Encodes a tile at the start of the output, from pixels of the length and order that xcf_decode_tile has. length is how many
+ * bytes that took; those behind it are unchanged. An output of 16,644 bytes is enough for any tile.
+ * Refused: 14 unless width and height are 1 to 64 and depth is 1 to 4; 11 pixels; 18. */
 xcf_encode_answer xcf_encode_tile(const uint8_t *pixels, size_t pixels_length, uint32_t width, uint32_t height, uint32_t depth,
                                   uint8_t *output, size_t output_length);
 
-/* The canvas's sides; base is 0 RGB, 1 greyscale, 2 indexed; version is 0 to 3; compression is 0 (plain) or 1 (run-length
- * encoded); rows is how many rows of the table are used. */
+/* width, height  of the canvas
+ * base           0 RGB, 1 greyscale, 2 indexed
+ * version        0 to 3
+ * compression    of the tiles: 0 plain, 1 run-length encoded
+ * rows           how many rows of the table are used */
 typedef struct {
     uint64_t number;
     uint64_t place;
@@ -87,19 +104,33 @@ typedef struct {
     uint64_t rows;
 } xcf_read_answer;
 
-/* Reads a file into a table of exactly 2,048 numbers: 128 rows of 16, one for each layer, directly behind it its mask, and
- * then one for each channel. Unused rows are zero. 11, then 15, are tested before all else, have place 0 and leave the
- * table as lent; any other refusal makes it zero.
- * A row: 0 kind (1 layer, 2 mask, 3 channel); 1 width; 2 height; 3 bytes per pixel; 4 type (2 for a mask or channel);
- * 5 place of the name's bytes; 6 their number; 7 place of the properties; 8 place of the first tile pointer; 9 tile count;
- * 10 opacity; 11 flags (1 visible, 2 apply mask, 4 selection, 8 active, 16 group); 12 and 13 offsets as stored, two's
- * complement (a mask has its layer's, a channel 0); 14 mode (0 for a mask or channel); 15 the owning layer's row for a mask,
- * else its own. */
+/* Reads a file into a table. Its rows are, from row 0 on, the layers in the order of the file, each with its mask, if it has
+ * one, in the next row, and then the channels. All other rows are zero.
+ *
+ *   Field   Holds
+ *   0       kind: 1 for a layer, 2 for a mask, 3 for a channel
+ *   1, 2    width, height
+ *   3       depth, the bytes of a pixel
+ *   4       type: 0 RGB, 1 RGB with alpha, 2 grey, 3 grey with alpha, 4 indexed, 5 indexed with alpha; masks and channels
+ *           have a 2
+ *   5, 6    where in the file the name begins, and how many bytes it has, without the zero byte that closes it
+ *   7       where the property list begins
+ *   8       where the tile pointers begin
+ *   9       number of tiles
+ *   10      opacity, at most 255
+ *   11      flags, added up: visible 1, apply mask 2, selection 4, active 8, group 16
+ *   12, 13  offset to the right and down, in two's complement; a mask has those of its layer, and channels have 0
+ *   14      mode; masks and channels have 0
+ *   15      number of this row, or for a mask that of its layer
+ *
+ * Refused: 11 table and 15, which leave the table as lent; then the file's first fault, a 1 to 10, 12, 13 or 16, which sets
+ * the whole table to zero. */
 xcf_read_answer xcf_read(const uint8_t *file, size_t file_length, uint32_t *table, size_t table_length);
 
-/* number is the call's own refusal, an 11 at place 0, beside which all else is 0. refused and at are the file's verdict, the
- * number and place of xcf_read_answer; marked is how many tiles of all rows are marked, and length how many bytes the listing
- * has. */
+/* number, place  of the call's own refusal: only ever an 11 at 0, and then all else is 0
+ * refused, at    what xcf_read answers for the file as number and place: 0 and 0 where it is accepted
+ * marked         how many tiles are marked, in all rows together
+ * length         bytes of the listing */
 typedef struct {
     uint64_t number;
     uint64_t place;
@@ -109,33 +140,40 @@ typedef struct {
     uint64_t length;
 } xcf_list_answer;
 
-/* Puts the listing of a file at the start of a text of at least 65,536 bytes, and reads the file into the table as xcf_read
- * does. The listing is a line for the canvas and one for each row with its number, its kind, its numbers 1 to 15 and how many
- * of its tiles are marked; or, of a refused file, one that is too long among them, the verdict alone: `refused 13 at 133`. The
- * text beyond it is unchanged. A table of another length than 2,048 or a shorter text is an 11, and both stay as lent. */
+/* Puts the listing of a file at the start of the text, which is unchanged behind it, and leaves the table as xcf_read does.
+ * The listing has a line for the canvas, and one for each row: its number, its kind, its fields 1 to 15 and how many of its
+ * tiles are marked. That of a refused file is a single line with number and place: `refused 13 at 133`.
+ * Refused: 11 table; 11 text, where it has fewer than XCF_TEXT_LENGTH bytes. A file that is too long is not refused by this
+ * call, but listed as `refused 15 at 0`. */
 xcf_list_answer xcf_list(const uint8_t *file, size_t file_length, uint32_t *table, size_t table_length, uint8_t *text,
                          size_t text_length);
 
-/* marked is how many tiles have a mark other than 0. */
+/* marked is how many tiles of the row are marked. */
 typedef struct {
     uint64_t number;
     uint64_t place;
     uint64_t marked;
 } xcf_decode_answer;
 
-/* Decodes the drawable of a row: into exactly width * height * depth bytes of pixels, pixel by pixel over the whole drawable,
- * top row first, left to right; and into one byte of marks for each tile, as in xcf_tile_answer. Tiles are 64 by 64, row by
- * row, the last column and row smaller. All pixels of a marked tile are zero. What pixels and marks held before is not seen.
- * The table and the compression are what xcf_read gave for the file, but neither is trusted. Refused are, in this order:
- * 11 a table of other than 2,048 numbers; 15; 14 unless the row is below 128, its kind is 1 to 3, its sides are 1 to 16,384,
- * its bytes per pixel 1 to 4, its tile count is that of its sides, its tile pointers and the word behind them lie in the file,
- * and compression is 0 or 1; 11 pixels or marks of the wrong length; 13 at the lowest bad word: a tile pointer that is 0, not
- * below the file's length or not above the one before, or the word behind them if it is not 0. */
+/* Decodes the drawable of a row. table and compression are those that xcf_read gave for this file; neither is trusted.
+ *
+ *   pixels  exactly width * height * depth bytes of the row: lines from the top, each from the left, depth bytes for a pixel
+ *   marks   exactly a byte for each tile (field 9), its mark as in xcf_tile_answer. Tiles have sides of 64, in the last
+ *           column and line what is left, and are numbered line by line from the top, in each from the left
+ *
+ * Every byte of both is set, whatever it held; where a tile is marked, its pixels are set to zero.
+ * Refused: 11 table; 15; 14 unless
+ *   - row is below 128 and its kind is 1 to 3,
+ *   - its sides are 1 to 16,384 and its depth is 1 to 4,
+ *   - field 9 is the number of tiles of these sides,
+ *   - field 8 + 4 * (field 9 + 1) is at most file_length: the tile pointers and the word behind them are in the file,
+ *   - compression is 0 or 1;
+ * 11 pixels or marks; 13, at the first of these words that is wrong. */
 xcf_decode_answer xcf_decode(const uint8_t *file, size_t file_length, const uint32_t *table, size_t table_length, uint32_t row,
                              uint32_t compression, uint8_t *pixels, size_t pixels_length, uint8_t *marks,
                              size_t marks_length);
 
-/* Counts the marked tiles of the drawable of a row: the answer of xcf_decode, lent pixels and marks of the right lengths. */
+/* Counts the marked tiles of a row: the answer that xcf_decode gives where pixels and marks have the right lengths. */
 xcf_decode_answer xcf_count_marked(const uint8_t *file, size_t file_length, const uint32_t *table, size_t table_length,
                                    uint32_t row, uint32_t compression);
 
@@ -145,18 +183,28 @@ typedef struct {
     uint64_t length;
 } xcf_write_answer;
 
-/* Writes a file, its tiles run-length encoded, at the start of the output. base is 0 RGB or 1 greyscale. The table is as
- * xcf_read gives it, but for three numbers of a row: 5 is the place of its name's bytes in names, 7 and 8 are 0. The pixels
- * are those of all rows in order, each drawable's as xcf_decode gives them. length is how many bytes were written; the output
- * beyond it is unchanged. Read back, the file gives the canvas, compression 1, version 2 if a mode is 19 to 21 and else 0,
- * the same names and pixels, and the same rows but for their numbers 5, 7 and 8.
- * A row is usable if xcf_read could have given it, but for those three numbers, and these hold: 6 is at most 1,024, and 5
- * plus 6 at most the length of names; 7 and 8 are 0; a mode is at most 21; a layer's type is 0 to 3, half of it, rounded
- * down, the base; no group flag; apply mask only where the next row is a mask; selection on at most one mask or channel,
- * active on at most one layer and one mask or channel (a second is the bad row).
- * Layers, each with its mask behind it, come first, then channels, then unused rows. No rows at all make a file too.
- * Refused are, in this order: 11 a table of other than 2,048 numbers; 4; 5; 17 at the lowest unusable row; 11 pixels of the
- * wrong length; 18. */
+/* Writes a file with run-length encoded tiles at the start of the output. length is how many bytes the file has; those behind
+ * it are unchanged. base is 0 RGB or 1 greyscale; pixels are those of all used rows one after another, each row's as
+ * xcf_decode gives them.
+ *
+ * Rows are as xcf_read could have given them for this canvas, but for what is said here:
+ *
+ *   Field  Usable
+ *   4      of a layer: 0 to 3, and half of it, rounded down, is base
+ *   5, 6   where in names the name begins, and its length: at most 1,024, and the sum of both at most names_length,
+ *          also for an empty name
+ *   7, 8   0
+ *   11     group is never set; apply mask is set only where the next row is a mask; selection is set for one mask or channel
+ *          at most, active for one layer at most, and for one mask or channel at most: a further one is the row refused
+ *   14     at most 21
+ *
+ * First come the layers, 48 at most, each with its mask, if it has one, in the next row; then the channels, 32 at most. All
+ * other rows are zero; a table of zeros only is right, too.
+ *
+ * xcf_read accepts the file and gives the same canvas and base, compression 1, version 2 where a mode is above 18 and 0
+ * elsewhere, and the same rows, but with places of the file in fields 5, 7 and 8. Names and pixels come back as they were.
+ * Refused: 11 table; 4 for width, then for height; 5; 17 for the first row that is not usable; 11 unless pixels_length is the
+ * sum over all used rows; 18. */
 xcf_write_answer xcf_write(uint32_t width, uint32_t height, uint32_t base, const uint32_t *table, size_t table_length,
                            const uint8_t *names, size_t names_length, const uint8_t *pixels, size_t pixels_length,
                            uint8_t *output, size_t output_length);

@@ -1,47 +1,47 @@
 //! The answers of the library's functions, and the numbers in them.
 
-/// A field or payload runs past the file's end.
+/// The file ends before a field, string or payload does.
 pub const PAST_END: u64 = 1;
-/// The first 9 bytes are not those of an XCF file.
+/// The file does not begin with "gimp xcf ".
 pub const NOT_XCF: u64 = 2;
 /// The version is none of 0 to 3.
 pub const UNKNOWN_VERSION: u64 = 3;
-/// A side is 0 or above 16,384.
+/// A side is outside 1 to 16,384.
 pub const BAD_SIDE: u64 = 4;
-/// A base type above 2, or 2 in version 0.
+/// The base type exceeds 2, or is 2 in version 0; for the writer it exceeds 1.
 pub const BAD_BASE: u64 = 5;
-/// A known property has a wrong length.
+/// The length of a property does not fit its type.
 pub const PROPERTY_LENGTH: u64 = 6;
-/// A property's content is not allowed.
+/// A payload's value is not allowed, or an indexed image has no colour map.
 pub const BAD_CONTENT: u64 = 7;
-/// A 49th layer or a 33rd channel.
+/// More than 48 layers or 32 channels.
 pub const TOO_MANY: u64 = 8;
-/// A hierarchy pointer or a first level pointer is 0.
+/// The pointer to a hierarchy or to its first level is 0.
 pub const ZERO_POINTER: u64 = 9;
-/// A type, size or depth disagrees with its owner.
+/// A type, side or depth is not what its owner says.
 pub const DISAGREES: u64 = 10;
-/// A lent buffer has the wrong length.
+/// The length of a buffer does not fit.
 pub const WRONG_LENGTH: u64 = 11;
-/// A string of nonzero length does not end in a zero byte.
+/// A string has bytes, and the last is not zero.
 pub const UNENDED_STRING: u64 = 12;
-/// A bad tile pointer or closing word.
+/// A tile pointer, or the word that closes them, breaks its rule.
 pub const BAD_TILE_POINTER: u64 = 13;
-/// A row, or a side, depth or compression, is unusable.
+/// A row, side, depth or compression that is not decoded or encoded.
 pub const UNUSABLE: u64 = 14;
-/// The file is too long.
+/// The file is longer than the limit.
 pub const FILE_TOO_LONG: u64 = 15;
-/// A layer is a floating selection.
+/// A layer has the property of a floating selection.
 pub const FLOATING_SELECTION: u64 = 16;
-/// A row given to the writer is unusable.
+/// A row cannot be written.
 pub const UNUSABLE_ROW: u64 = 17;
-/// What is written would exceed the lent output, or the limit of files.
+/// The output is too short, or the file would be longer than the limit.
 pub const OUTPUT_TOO_SHORT: u64 = 18;
 
 /// The mark of a good tile.
 pub const GOOD: u64 = 0;
-/// The mark of a tile whose window ends too soon.
+/// The mark of a tile whose window ends before it does.
 pub const TOO_SOON: u64 = 20;
-/// The mark of a tile with an operation that runs over its stream's end.
+/// The mark of a tile with an operation that gives more than its stream takes.
 pub const OVERRUN: u64 = 21;
 
 /// Longer streams are refused.

@@ -19,7 +19,7 @@ pub struct Drawable {
     width: usize,
     height: usize,
     depth: usize,
-    /// The place of the first tile pointer.
+    /// Where the tile pointers begin.
     place: usize,
     /// How many tiles there are.
     count: usize,

@@ -394,8 +394,8 @@ fn twelve_tiles() {
     drawable([200, 150], 1, 1, &tiles).assert_decodes(&[0; 12], &pixels);
 }
 
-/// All pixels of a marked tile are zero, whatever they were; its neighbour is
-/// not touched by that.
+/// A marked tile shows zeros, whatever the buffer held; its neighbour is not
+/// touched by that.
 #[test]
 fn marked_tiles() {
     let whole = [&[0; 64][..], &[9]].concat();
@@ -409,7 +409,7 @@ fn marked_tiles() {
     call.assert_decodes(&[21, 21], &[0; 65]);
 }
 
-/// A run does not cross from one stream into the next.
+/// No run serves two streams.
 #[test]
 fn run_over_two_streams() {
     drawable([2, 1], 2, 1, &[&[0x03, 0x10]]).assert_decodes(&[21], &[0; 4]);

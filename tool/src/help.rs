@@ -58,8 +58,9 @@ pub const EXTRACT: &str = "\
 usage: xcf extract [--no-marks] [--force] FILE ROW OUT.pam
 
 Writes the pixels of a row, by its number in `xcf list`, as a Netpbm PAM file
-with one band more, the last: 255 where the tile is good, 0 where it is marked.
-Marked tiles are also said on standard error, and the exit status is then 1.
+with a band of marks behind its own: 255 for each pixel of a good tile, 0 for
+each of a marked one. Marked tiles are also said on standard error, and the exit
+status is then 1.
 
   --no-marks  leave the band of marks out
   --force     replace OUT where it exists

@@ -1,5 +1,6 @@
 //! Netpbm's PAM files of 8-bit bands, the last of them a band of marks where
-//! the header says so: 255 where a tile is good, 0 where it is marked.
+//! the header says so: 255 for each pixel of a good tile, 0 for each of a
+//! marked one.
 
 use std::io::{self, Write};
 

@@ -26,27 +26,31 @@ impl fmt::Display for Refusal {
     }
 }
 
-/// When a number is given, in the words of the rules.
+/// What a number means to somebody who has the file (RULES, "Numbers").
 fn meaning(number: u64) -> &'static str {
     match number {
-        1 => "a field or payload runs past the file's end",
-        2 => "the first 9 bytes are not \"gimp xcf \"",
-        3 => "bytes 9 to 13 are not \"file\", \"v001\", \"v002\" or \"v003\" and a zero",
-        4 => "a side is 0 or above 16,384",
-        5 => "base type above 2, or 2 in version 0",
-        6 => "a known property has a wrong length",
-        7 => "a property's content is not allowed",
-        8 => "a 49th layer or 33rd channel",
-        9 => "hierarchy or first level pointer is 0",
-        10 => "a type, size or depth disagrees with its owner",
-        11 => "a lent buffer has the wrong length",
-        12 => "a string of nonzero length does not end in a zero byte",
-        13 => "a bad tile pointer or closing word",
-        14 => "a row or tile number given to the decoder is unusable",
-        15 => "the file is too long",
-        16 => "a layer is a floating selection",
-        17 => "a row given to the writer is unusable",
-        18 => "the written file would exceed the lent output or the file limit",
+        1 => "the file ends before the field or data at this place is complete",
+        2 => "the file does not begin with \"gimp xcf \"",
+        3 => {
+            "bytes 9 to 13 are no version tag: \"file\", \"v001\", \"v002\" or \"v003\", then a zero byte"
+        }
+        4 => "a width or height is outside the range 1 to 16,384",
+        5 => "the base type is none of 0 (RGB), 1 (greyscale) and, from version 1 on, 2 (indexed)",
+        6 => "the length of a property does not fit its type",
+        7 => "a property holds a value that is not allowed, or an indexed image has no colour map",
+        8 => "the image has more than 48 layers or more than 32 channels",
+        9 => "the pointer to a hierarchy, or to its first level, is 0",
+        10 => "a type, side or depth does not match the image or drawable that it belongs to",
+        11 => "a buffer is lent with a length that does not fit",
+        12 => "a name whose length is not 0 lacks its closing zero byte",
+        13 => {
+            "a tile pointer is 0, not above the one before it or outside the file, or no 0 ends their list"
+        }
+        14 => "there is no such row, or the row, tile or compression cannot be used",
+        15 => "the file is longer than 1,073,741,824 bytes",
+        16 => "a layer is a floating selection, which cannot be read",
+        17 => "a row cannot be written as it is given",
+        18 => "what is to be written is longer than the output lent for it, or than a file may be",
         _ => "a number that is not listed",
     }
 }

@@ -66,7 +66,7 @@ fn each_file_has_a_line_and_the_greatest_status_counts() {
     let folder = Folder::with("good.xcf", &example());
     folder.put("bad.xcf", &altered(17, 0));
     let good = "good.xcf: accepted, 1 row, 1 tile, none marked\n";
-    let bad = "bad.xcf: refused 4 at 14: a side is 0 or above 16,384\n";
+    let bad = "bad.xcf: refused 4 at 14: a width or height is outside the range 1 to 16,384\n";
     let none = "xcf: none.xcf: no such file or folder\n";
     let all = format!("{good}{bad}{good}");
     folder

@@ -9,7 +9,8 @@ use common::folder::answer;
 use common::refusals::refused_files;
 use common::{Folder, Pam, not_here};
 
-const UNUSABLE: &str = "refused 14 at 0: a row or tile number given to the decoder is unusable";
+const UNUSABLE: &str =
+    "refused 14 at 0: there is no such row, or the row, tile or compression cannot be used";
 
 #[test]
 fn the_example_is_extracted() {
@@ -114,7 +115,7 @@ fn an_indexed_row_has_the_palettes_numbers() {
     }
 }
 
-/// The pixels of a marked tile are zero, all others are as they were packed;
+/// A marked tile's pixels are zero, all others are as they were packed;
 /// the file is written, the tiles are told of, and the status is 1.
 #[test]
 fn marked_tiles_are_zero_and_told_of() {

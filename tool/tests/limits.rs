@@ -29,7 +29,7 @@ fn a_file_may_be_as_long_as_the_limit() {
     folder.xcf("list long.xcf").is(0, EXAMPLE_LISTING, "");
     long_file(&folder, FILE_LIMIT + 1);
     folder.xcf("list long.xcf").is(1, "refused 15 at 0\n", "");
-    let refused = "refused 15 at 0: the file is too long";
+    let refused = "refused 15 at 0: the file is longer than 1,073,741,824 bytes";
     folder
         .xcf("check long.xcf")
         .is(1, &format!("long.xcf: {refused}\n"), "");
@@ -54,7 +54,11 @@ fn a_file_that_grows_past_the_limit_is_refused() {
         grown = stdin.write_all(&zeros);
     }
     let answer = Answer::of(child.wait_with_output().expect("the command ends"));
-    answer.is(1, "-: refused 15 at 0: the file is too long\n", "");
+    answer.is(
+        1,
+        "-: refused 15 at 0: the file is longer than 1,073,741,824 bytes\n",
+        "",
+    );
 }
 
 /// So many layers, all with masks, and so many channels.
@@ -81,7 +85,7 @@ fn a_table_has_128_rows() {
     assert_eq!((shown.status, shown.text().lines().count()), (0, 130));
     folder.xcf("extract all.xcf 127 out.pam").is(0, "", "");
     let kept = folder.get("all.xcf");
-    let too_many = "xcf: all.xcf: refused 17 at 96: a row given to the writer is unusable";
+    let too_many = "xcf: all.xcf: refused 17 at 96: a row cannot be written as it is given";
     folder
         .run(items(49, 30))
         .is(1, "", &format!("{too_many}: the layer \"l\"\n"));

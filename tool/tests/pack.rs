@@ -420,14 +420,15 @@ fn the_writers_refusals_are_told_with_their_item() {
     folder.put("rgb.pam", &Pam::flat(2, 2, "red green blue", 0).bytes());
     for (items, row, name) in BAD_ROWS {
         let packed = folder.xcf(&format!("pack out.xcf {items}"));
-        let refusal = format!("refused 17 at {row}: a row given to the writer is unusable");
+        let refusal = format!("refused 17 at {row}: a row cannot be written as it is given");
         packed.fails(1, &[&format!("xcf: out.xcf: {refusal}"), name]);
     }
     for (canvas, place) in [("0x2", 14), ("2x0", 18), ("16385x2", 14), ("2x16385", 18)] {
         let packed = folder.xcf(&format!(
             "pack out.xcf --canvas {canvas} --layer a grey.pam"
         ));
-        let said = format!("refused 4 at {place}: a side is 0 or above 16,384");
+        let said =
+            format!("refused 4 at {place}: a width or height is outside the range 1 to 16,384");
         packed.is(1, "", &format!("xcf: out.xcf: {said}\n"));
     }
     assert_eq!(folder.names(), ["grey.pam", "grey1.pam", "rgb.pam"]);

@@ -194,6 +194,6 @@ fn a_refused_file_shows_nothing() {
     shown.is(
         1,
         "",
-        "xcf: -: refused 2 at 0: the first 9 bytes are not \"gimp xcf \"\n",
+        "xcf: -: refused 2 at 0: the file does not begin with \"gimp xcf \"\n",
     );
 }

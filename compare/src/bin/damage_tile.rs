@@ -1,5 +1,5 @@
 //! Overwrites the first bytes of a tile in an encoded file, so that its first
-//! operation runs over the end of its stream. The arguments are the file, the
+//! operation gives more than its stream takes. The arguments are the file, the
 //! row of the drawable, the number of the tile, and the file to write.
 
 use std::{env, fs, process};

@@ -29,7 +29,7 @@ pub enum Kind {
     Compression,
     /// A table, pixels or marks of the wrong length.
     WrongLength,
-    /// A bad tile pointer or closing word.
+    /// A tile pointer, or the word that closes them, that breaks its rule.
     Pointer,
     /// Up to four of the faults above.
     Several,
@@ -83,7 +83,7 @@ impl DrawableCase {
 struct Base {
     case: DrawableCase,
     shape: Shape,
-    /// The place of the first tile pointer.
+    /// Where the tile pointers begin.
     place: usize,
 }
 

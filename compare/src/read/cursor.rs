@@ -1,4 +1,4 @@
-//! A moving place in a file, from which a structure is read front to back.
+//! A place in a file that moves along while a structure is read.
 
 use std::ops::Range;
 

@@ -40,7 +40,7 @@ pub struct Drawable {
 
 /// A hierarchy and its first level, both passed over.
 pub struct Tiles {
-    /// The place of the first tile pointer.
+    /// Where the tile pointers begin.
     pub first: usize,
     pub hierarchy: Range<usize>,
     pub level: Range<usize>,
@@ -107,7 +107,7 @@ impl Drawable {
         })
     }
 
-    /// Reads the level at `place`; gives the place of the first tile pointer
+    /// Reads the level at `place`; gives the place where its tile pointers begin
     /// and the level's bytes.
     fn level(&self, file: &[u8], place: u32) -> Result<(usize, Range<usize>), Refusal> {
         let mut cursor = Cursor::new(file, place);

@@ -1,5 +1,5 @@
-//! Of two faults the first on the walk is the answer: one case for each order
-//! that the rules fix, mostly beside the case of the later fault alone.
+//! Of two faults the one that the walk meets first is answered: one case for each
+//! order that the rules fix, mostly beside the case of the later fault alone.
 
 use xcf_compare::answer::{FILE_LIMIT, ReadAnswer, TABLE_LENGTH};
 use xcf_compare::files::EXAMPLE;

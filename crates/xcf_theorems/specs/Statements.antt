@@ -150,7 +150,7 @@ CountIsTheDecoders =
 abbrev pub PixelsAreWhole : Type 0
 PixelsAreWhole = (window : List ℕ) (w h depth compression : ℕ) → length (tileOf window w h depth compression .pixels) ≡ w * h * depth
 
--- All pixels of a marked tile are zero.
+-- A marked tile shows nothing but zeros.
 abbrev pub MarkedPixelsAreZero : Type 0
 MarkedPixelsAreZero =
     (window : List ℕ) (w h depth compression : ℕ) →
@@ -199,7 +199,7 @@ GivenRowsAreTaken = GivenIsTaken
 abbrev pub TakenRowsAreExcepted : Type 0
 TakenRowsAreExcepted = TakenIsExcepted
 
--- A stream of n bytes takes at most n + 3 + 2·⌊n/131⌋ bytes.
+-- How long the encoding of a stream can be.
 abbrev pub EncodedStreamBounded : Type 0
 EncodedStreamBounded = (bytes : List ℕ) → length (encodeStream bytes) ≤ length bytes + 3 + 2 * (length bytes / 131)
 

@@ -8,59 +8,67 @@ const ALTERED: [(usize, u8, &str); 13] = [
     (
         104,
         255,
-        "refused 1 at 255: a field or payload runs past the file's end",
+        "refused 1 at 255: the file ends before the field or data at this place is complete",
     ),
     (
         0,
         b'G',
-        "refused 2 at 0: the first 9 bytes are not \"gimp xcf \"",
+        "refused 2 at 0: the file does not begin with \"gimp xcf \"",
     ),
     (
         10,
         b'4',
-        "refused 3 at 9: bytes 9 to 13 are not \"file\", \"v001\", \"v002\" or \"v003\" and a zero",
+        "refused 3 at 9: bytes 9 to 13 are no version tag: \"file\", \"v001\", \"v002\" or \"v003\", then a zero byte",
     ),
-    (17, 0, "refused 4 at 14: a side is 0 or above 16,384"),
-    (20, 65, "refused 4 at 18: a side is 0 or above 16,384"),
+    (
+        17,
+        0,
+        "refused 4 at 14: a width or height is outside the range 1 to 16,384",
+    ),
+    (
+        20,
+        65,
+        "refused 4 at 18: a width or height is outside the range 1 to 16,384",
+    ),
     (
         25,
         3,
-        "refused 5 at 22: base type above 2, or 2 in version 0",
+        "refused 5 at 22: the base type is none of 0 (RGB), 1 (greyscale) and, from version 1 on, 2 (indexed)",
     ),
     (
         25,
         2,
-        "refused 5 at 22: base type above 2, or 2 in version 0",
+        "refused 5 at 22: the base type is none of 0 (RGB), 1 (greyscale) and, from version 1 on, 2 (indexed)",
     ),
     (
         33,
         4,
-        "refused 6 at 30: a known property has a wrong length",
+        "refused 6 at 30: the length of a property does not fit its type",
     ),
     (
         34,
         2,
-        "refused 7 at 34: a property's content is not allowed",
+        "refused 7 at 34: a property holds a value that is not allowed, or an indexed image has no colour map",
     ),
     (
         104,
         0,
-        "refused 9 at 101: hierarchy or first level pointer is 0",
+        "refused 9 at 101: the pointer to a hierarchy, or to its first level, is 0",
     ),
     (
         116,
         2,
-        "refused 10 at 113: a type, size or depth disagrees with its owner",
+        "refused 10 at 113: a type, side or depth does not match the image or drawable that it belongs to",
     ),
     (
         68,
         1,
-        "refused 12 at 63: a string of nonzero length does not end in a zero byte",
+        "refused 12 at 63: a name whose length is not 0 lacks its closing zero byte",
     ),
     (
         136,
         0,
-        "refused 13 at 133: a bad tile pointer or closing word",
+        "refused 13 at 133: a tile pointer is 0, not above the one before it or outside the file, or no 0 ends their list",
     ),
 ];
 
@@ -73,19 +81,19 @@ pub fn refused_files() -> Vec<(Vec<u8>, &'static str)> {
     files.extend([
         (
             Vec::new(),
-            "refused 1 at 0: a field or payload runs past the file's end",
+            "refused 1 at 0: the file ends before the field or data at this place is complete",
         ),
         (
             with_49_layers(),
-            "refused 8 at 235: a 49th layer or 33rd channel",
+            "refused 8 at 235: the image has more than 48 layers or more than 32 channels",
         ),
         (
             example()[..141].to_vec(),
-            "refused 13 at 133: a bad tile pointer or closing word",
+            "refused 13 at 133: a tile pointer is 0, not above the one before it or outside the file, or no 0 ends their list",
         ),
         (
             floating_selection(),
-            "refused 16 at 101: a layer is a floating selection",
+            "refused 16 at 101: a layer is a floating selection, which cannot be read",
         ),
     ]);
     files
