@@ -4,10 +4,10 @@
 use std::hint::black_box;
 
 use xcf_compare::answer::{DecodeAnswer, DecodeDrawable, TABLE_LENGTH};
-use xcf_compare::{library, tile};
+use xcf_compare::{library, plain, tile};
 
+use crate::files;
 use crate::turns::{SIDE, Work, compare, contents, print_heading};
-use crate::{files, plain_decode};
 
 const TILE: usize = 64;
 const TILES: usize = (SIDE / TILE) * (SIDE / TILE);
@@ -65,7 +65,7 @@ impl Drawable {
 
     fn compare(&self) {
         self.check(library::decode);
-        self.check(plain_decode::decode);
+        self.check(plain::decode);
         let mut lent = Lent {
             pixels: vec![0; self.pixels.len()],
             marks: vec![0; TILES],
@@ -77,7 +77,7 @@ impl Drawable {
                     black_box(self.decode(library::decode, lent));
                 }
                 Work::Plain => {
-                    black_box(self.decode(plain_decode::decode, lent));
+                    black_box(self.decode(plain::decode, lent));
                 }
                 Work::Copy => lent.pixels.copy_from_slice(black_box(&self.pixels)),
             }

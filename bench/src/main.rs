@@ -6,12 +6,7 @@
 mod decoding;
 mod files;
 mod peers;
-mod plain;
-mod plain_decode;
-mod plain_read;
-mod plain_write;
 mod reading;
-mod rows;
 mod turns;
 mod writing;
 
@@ -20,7 +15,7 @@ use std::time::Instant;
 
 use xcf_compare::answer::{Decode, Encode, WriteAnswer};
 use xcf_compare::random::Random;
-use xcf_compare::{library, tile};
+use xcf_compare::{library, plain, tile};
 
 const SEED: u64 = 0x7863_6600_6265_6E63;
 const TILES: usize = 4_096;

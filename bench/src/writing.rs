@@ -5,9 +5,8 @@ use std::hint::black_box;
 
 use xcf_compare::answer::{Row, Write, WriteAnswer};
 use xcf_compare::files::table_of;
-use xcf_compare::{library, write as reference};
+use xcf_compare::{library, plain, write as reference};
 
-use crate::plain_write;
 use crate::turns::{SIDE, Work, compare, contents, print_heading};
 
 /// A drawable to write as the only layer of a file.
@@ -54,7 +53,7 @@ impl Drawable {
 
     fn compare(&self) {
         let expected = self.file(reference::write);
-        for write in [library::write, plain_write::write] {
+        for write in [library::write, plain::write] {
             assert!(self.file(write) == expected, "files differ");
         }
         let mut output = self.output();
@@ -65,7 +64,7 @@ impl Drawable {
                     black_box(self.write(library::write, output));
                 }
                 Work::Plain => {
-                    black_box(self.write(plain_write::write, output));
+                    black_box(self.write(plain::write, output));
                 }
                 Work::Copy => {
                     let pixels = black_box(&self.pixels);
