@@ -39,11 +39,22 @@ pub const LIBRARY: Implementation = Implementation {
 /// The plain Rust that the library is measured against.
 pub const PLAIN: Implementation = Implementation {
     name: "plain",
-    decode_tile: plain::decode_tile,
-    encode_tile: plain::encode_tile,
-    read: plain::read,
-    decode: plain::decode,
-    write: plain::write,
+    decode_tile: |window, width, height, depth, compression, pixels| {
+        let tile = xcf_plain::decode_tile(window, width, height, depth, compression, pixels);
+        plain::decoded_tile(tile)
+    },
+    encode_tile: |pixels, width, height, depth, output| {
+        plain::written(xcf_plain::encode_tile(pixels, width, height, depth, output))
+    },
+    read: |file, table| plain::read(xcf_plain::read(file, table)),
+    decode: |file, table, row, compression, pixels, marks| {
+        let marked = xcf_plain::decode(file, table, row, compression, pixels, marks);
+        plain::decoded(marked)
+    },
+    write: |width, height, base, table, names, pixels, output| {
+        let length = xcf_plain::write(width, height, base, table, names, pixels, output);
+        plain::written(length)
+    },
 };
 
 /// All of them. What the first gives, the others must give too.

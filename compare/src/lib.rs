@@ -15,7 +15,7 @@ pub mod list;
 pub mod list_cases;
 pub mod numbers;
 pub mod pictures;
-pub mod plain;
+mod plain;
 pub mod programs;
 pub mod random;
 pub mod read;
