@@ -64,25 +64,30 @@ impl<'a> Drawable<'a> {
         marks: &mut [u8],
     ) -> Result<usize, Refusal> {
         let mut scratch = [0; SIDE * SIDE * 4];
-        let line_length = self.width * self.depth;
         let across = self.width.div_ceil(SIDE);
         let mut marked = 0;
         for (tile, mark) in marks.iter_mut().enumerate() {
             let (left, top) = (tile % across * SIDE, tile / across * SIDE);
             let width = SIDE.min(self.width - left);
             let height = SIDE.min(self.height - top);
-            let tile_line = width * self.depth;
-            let bytes = &mut scratch[..tile_line * height];
+            let bytes = &mut scratch[..width * height * self.depth];
             let window = self.window(file, tile);
             let [w, h, d] = [width, height, self.depth].map(|side| side as u32);
             *mark = decode_tile(window, w, h, d, compression, bytes)?.mark as u8;
             marked += usize::from(*mark != 0);
-            let lines = pixels[top * line_length..].chunks_mut(line_length);
-            for (line, bytes) in lines.zip(bytes.chunks(tile_line)) {
-                line[left * self.depth..][..tile_line].copy_from_slice(bytes);
-            }
+            let lines = &mut pixels[top * self.width * self.depth..];
+            self.put_lines(bytes, width * self.depth, lines, left * self.depth);
         }
         Ok(marked)
+    }
+
+    /// Copies a tile's lines, of so many bytes, into lines of the drawable, from
+    /// a place in each.
+    fn put_lines(&self, bytes: &[u8], length: usize, lines: &mut [u8], place: usize) {
+        let lines = lines.chunks_mut(self.width * self.depth);
+        for (line, bytes) in lines.zip(bytes.chunks(length)) {
+            line[place..][..length].copy_from_slice(bytes);
+        }
     }
 }
 

@@ -89,6 +89,25 @@ fn put<const DEPTH: usize>(output: Output, pixels: &mut [[u8; DEPTH]], k: usize)
     }
 }
 
+/// Decodes a stream into byte `k` of each of the pixels, behind what the tile
+/// has consumed.
+fn decode_stream<const DEPTH: usize>(
+    window: &[u8],
+    mut rest: &mut [[u8; DEPTH]],
+    k: usize,
+    tile: &mut Tile,
+) -> Result<(), Mark> {
+    while !rest.is_empty() {
+        let operation = read_operation(&window[tile.consumed..], rest.len())?;
+        let (now, later) = rest.split_at_mut(operation.count);
+        put(operation.output, now, k);
+        rest = later;
+        tile.consumed += operation.length;
+        tile.operations += 1;
+    }
+    Ok(())
+}
+
 fn decode_streams<const DEPTH: usize>(window: &[u8], pixels: &mut [u8]) -> Tile {
     let (pixels, _) = pixels.as_chunks_mut::<DEPTH>();
     let mut tile = Tile {
@@ -97,21 +116,9 @@ fn decode_streams<const DEPTH: usize>(window: &[u8], pixels: &mut [u8]) -> Tile 
         operations: 0,
     };
     for k in 0..DEPTH {
-        let mut rest = &mut *pixels;
-        while !rest.is_empty() {
-            match read_operation(&window[tile.consumed..], rest.len()) {
-                Ok(operation) => {
-                    let (now, later) = rest.split_at_mut(operation.count);
-                    put(operation.output, now, k);
-                    rest = later;
-                    tile.consumed += operation.length;
-                    tile.operations += 1;
-                }
-                Err(mark) => {
-                    pixels.as_flattened_mut().fill(0);
-                    return Tile { mark, ..tile };
-                }
-            }
+        if let Err(mark) = decode_stream(window, pixels, k, &mut tile) {
+            pixels.as_flattened_mut().fill(0);
+            return Tile { mark, ..tile };
         }
     }
     tile

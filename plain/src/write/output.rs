@@ -106,13 +106,15 @@ impl Output<'_> {
     fn tiles<const DEPTH: usize>(&mut self, pixels: &[u8], width: usize, mut pointer: usize) {
         let (pixels, _) = pixels.as_chunks::<DEPTH>();
         let mut room = [0; SIDE * SIDE];
-        for lines in pixels.chunks(width * SIDE) {
-            for left in (0..width).step_by(SIDE) {
-                let columns = left..width.min(left + SIDE);
-                self.lead_next(&mut pointer);
-                let output = &mut self.bytes[self.place..];
-                self.place += encode_part(lines, width, columns, &mut room, output);
-            }
+        let lefts = || (0..width).step_by(SIDE);
+        let tiles = pixels
+            .chunks(width * SIDE)
+            .flat_map(|lines| lefts().map(move |left| (lines, left)));
+        for (lines, left) in tiles {
+            let columns = left..width.min(left + SIDE);
+            self.lead_next(&mut pointer);
+            let output = &mut self.bytes[self.place..];
+            self.place += encode_part(lines, width, columns, &mut room, output);
         }
     }
 }
