@@ -4,10 +4,11 @@
 use std::hint::black_box;
 
 use xcf_compare::answer::{DecodeAnswer, DecodeDrawable, TABLE_LENGTH};
-use xcf_compare::{library, tile};
+use xcf_compare::implementation::{LIBRARY, PLAIN};
+use xcf_compare::tile;
 
+use crate::files;
 use crate::turns::{SIDE, Work, compare, contents, print_heading};
-use crate::{files, plain_decode};
 
 const TILE: usize = 64;
 const TILES: usize = (SIDE / TILE) * (SIDE / TILE);
@@ -35,7 +36,7 @@ impl Drawable {
         });
         let file = files::one_layer(SIDE as u32, depth as u32, windows.collect());
         let mut table = vec![0; TABLE_LENGTH];
-        let answer = library::read(&file, &mut table);
+        let answer = (LIBRARY.read)(&file, &mut table);
         assert_eq!((answer.number, answer.rows), (0, 1));
         Drawable {
             content,
@@ -64,8 +65,8 @@ impl Drawable {
     }
 
     fn compare(&self) {
-        self.check(library::decode);
-        self.check(plain_decode::decode);
+        self.check(LIBRARY.decode);
+        self.check(PLAIN.decode);
         let mut lent = Lent {
             pixels: vec![0; self.pixels.len()],
             marks: vec![0; TILES],
@@ -74,10 +75,10 @@ impl Drawable {
             let lent = black_box(&mut lent);
             match work {
                 Work::Library => {
-                    black_box(self.decode(library::decode, lent));
+                    black_box(self.decode(LIBRARY.decode, lent));
                 }
                 Work::Plain => {
-                    black_box(self.decode(plain_decode::decode, lent));
+                    black_box(self.decode(PLAIN.decode, lent));
                 }
                 Work::Copy => lent.pixels.copy_from_slice(black_box(&self.pixels)),
             }

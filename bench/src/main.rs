@@ -6,12 +6,7 @@
 mod decoding;
 mod files;
 mod peers;
-mod plain;
-mod plain_decode;
-mod plain_read;
-mod plain_write;
 mod reading;
-mod rows;
 mod turns;
 mod writing;
 
@@ -19,8 +14,9 @@ use std::hint::black_box;
 use std::time::Instant;
 
 use xcf_compare::answer::{Decode, Encode, WriteAnswer};
+use xcf_compare::implementation::{LIBRARY, PLAIN};
 use xcf_compare::random::Random;
-use xcf_compare::{library, tile};
+use xcf_compare::tile;
 
 const SEED: u64 = 0x7863_6600_6265_6E63;
 const TILES: usize = 4_096;
@@ -104,23 +100,23 @@ impl Tiles {
     }
 
     fn compare_decoders(&self) {
-        self.check_decoder(library::decode_tile);
-        self.check_decoder(plain::decode_tile);
+        self.check_decoder(LIBRARY.decode_tile);
+        self.check_decoder(PLAIN.decode_tile);
         let mut pixels = vec![0; self.pixels[0].len()];
         let (library, plain) = alternate(|which| match which {
-            Which::Library => self.time_decoder(library::decode_tile, &mut pixels),
-            Which::Plain => self.time_decoder(plain::decode_tile, &mut pixels),
+            Which::Library => self.time_decoder(LIBRARY.decode_tile, &mut pixels),
+            Which::Plain => self.time_decoder(PLAIN.decode_tile, &mut pixels),
         });
         self.print("decode", library, plain);
     }
 
     fn compare_encoders(&self) {
-        self.check_encoder(library::encode_tile);
-        self.check_encoder(plain::encode_tile);
+        self.check_encoder(LIBRARY.encode_tile);
+        self.check_encoder(PLAIN.encode_tile);
         let mut output = vec![0; OUTPUT_LENGTH];
         let (library, plain) = alternate(|which| match which {
-            Which::Library => self.time_encoder(library::encode_tile, &mut output),
-            Which::Plain => self.time_encoder(plain::encode_tile, &mut output),
+            Which::Library => self.time_encoder(LIBRARY.encode_tile, &mut output),
+            Which::Plain => self.time_encoder(PLAIN.encode_tile, &mut output),
         });
         self.print("encode", library, plain);
     }

@@ -9,12 +9,12 @@ use std::time::Instant;
 
 use xcf_compare::answer::{DecodeDrawable, Read, TABLE_LENGTH};
 use xcf_compare::gimp::data_folder;
-use xcf_compare::library;
+use xcf_compare::implementation::{LIBRARY, PLAIN};
 use xcf_compare::programs::{IMAGE_MAGICK, Scratch, is_here};
 
+use crate::ROUNDS;
 use crate::decoding::Drawable;
 use crate::turns::{SIDE, contents};
-use crate::{ROUNDS, plain_decode, plain_read};
 
 /// Buffers that are lent to every call.
 struct Lent {
@@ -54,8 +54,8 @@ fn compare(content: &str, depth: usize, file: &[u8]) {
     let mut best = [f64::INFINITY; 4];
     for _ in 0..ROUNDS {
         let turns = [
-            time(|| decode(&path, library::read, library::decode, &mut lent)),
-            time(|| decode(&path, plain_read::read, plain_decode::decode, &mut lent)),
+            time(|| decode(&path, LIBRARY.read, LIBRARY.decode, &mut lent)),
+            time(|| decode(&path, PLAIN.read, PLAIN.decode, &mut lent)),
             time(|| run(&path)),
             time(|| run(&small)),
         ];

@@ -4,10 +4,11 @@ use std::hint::black_box;
 use std::time::Instant;
 
 use xcf_compare::answer::{BAD_TILE_POINTER, Read, TABLE_LENGTH};
+use xcf_compare::implementation::{LIBRARY, PLAIN};
 use xcf_compare::random::Random;
-use xcf_compare::{library, read as reference};
+use xcf_compare::read as reference;
 
-use crate::{ROUNDS, SEED, Which, alternate, files, plain_read};
+use crate::{ROUNDS, SEED, Which, alternate, files};
 
 /// The files of one case, and what a reader gives for each.
 struct Files {
@@ -80,12 +81,12 @@ impl Files {
 
     /// Measures both readers, prints the times and gives them.
     fn compare(&self) -> [f64; 2] {
-        self.check(library::read);
-        self.check(plain_read::read);
+        self.check(LIBRARY.read);
+        self.check(PLAIN.read);
         let mut table = vec![0; TABLE_LENGTH];
         let (library, plain) = alternate(|which| match which {
-            Which::Library => self.time(library::read, &mut table),
-            Which::Plain => self.time(plain_read::read, &mut table),
+            Which::Library => self.time(LIBRARY.read, &mut table),
+            Which::Plain => self.time(PLAIN.read, &mut table),
         });
         let (content, ratio) = (self.content, library / plain);
         println!("read           {content:<7}{library:>12.0}{plain:>12.0}{ratio:>9.2}");

@@ -5,9 +5,9 @@ use std::hint::black_box;
 
 use xcf_compare::answer::{Row, Write, WriteAnswer};
 use xcf_compare::files::table_of;
-use xcf_compare::{library, write as reference};
+use xcf_compare::implementation::{LIBRARY, PLAIN};
+use xcf_compare::write as reference;
 
-use crate::plain_write;
 use crate::turns::{SIDE, Work, compare, contents, print_heading};
 
 /// A drawable to write as the only layer of a file.
@@ -54,7 +54,7 @@ impl Drawable {
 
     fn compare(&self) {
         let expected = self.file(reference::write);
-        for write in [library::write, plain_write::write] {
+        for write in [LIBRARY.write, PLAIN.write] {
             assert!(self.file(write) == expected, "files differ");
         }
         let mut output = self.output();
@@ -62,10 +62,10 @@ impl Drawable {
             let output = black_box(&mut output);
             match work {
                 Work::Library => {
-                    black_box(self.write(library::write, output));
+                    black_box(self.write(LIBRARY.write, output));
                 }
                 Work::Plain => {
-                    black_box(self.write(plain_write::write, output));
+                    black_box(self.write(PLAIN.write, output));
                 }
                 Work::Copy => {
                     let pixels = black_box(&self.pixels);

@@ -1,6 +1,6 @@
-//! Compares the static library with an independent implementation of the
-//! rules: for one tile, for reading a whole file, for decoding a drawable, for
-//! writing a whole file.
+//! Compares the static library, and the plain Rust that it is measured against,
+//! with an independent implementation of the rules: for one tile, for reading a
+//! whole file, for decoding a drawable, for writing a whole file.
 
 pub mod answer;
 pub mod cases;
@@ -9,11 +9,13 @@ pub mod files;
 pub mod folder;
 pub mod gimp;
 pub mod guard;
+pub mod implementation;
 pub mod library;
 pub mod list;
 pub mod list_cases;
 pub mod numbers;
 pub mod pictures;
+mod plain;
 pub mod programs;
 pub mod random;
 pub mod read;

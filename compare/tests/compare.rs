@@ -1,4 +1,4 @@
-//! Compares the library with the reference: equal answers, equal buffers.
+//! Compares the implementations on tiles: equal answers, equal buffers.
 
 use std::collections::BTreeMap;
 use std::fmt::Debug;
@@ -9,43 +9,46 @@ use xcf_compare::answer::{
 use xcf_compare::cases::decode::{self, DecodeCase};
 use xcf_compare::cases::encode::{self, EncodeCase};
 use xcf_compare::guard::{Guarded, difference};
+use xcf_compare::implementation::agree;
 use xcf_compare::random::Random;
-use xcf_compare::{library, report, tile};
+use xcf_compare::{report, tile};
 
 const DECODE_SEED: u64 = 0x6465_636F_6465_0001;
 const ENCODE_SEED: u64 = 0x656E_636F_6465_0001;
 const DECODE_CASES: usize = 80_000;
 const ENCODE_CASES: usize = 40_000;
 
-/// Decodes with both and asserts that all is equal; gives the answer and the
+/// Decodes with all and asserts that they agree; gives the answer and the
 /// pixels.
-fn decode_both(case: &DecodeCase) -> (TileAnswer, Vec<u8>) {
+fn decode_case(case: &DecodeCase) -> (TileAnswer, Vec<u8>) {
     let (width, height, depth) = (case.width, case.height, case.depth);
     let (window, compression) = (&case.window, case.compression);
-    let mut ours = Guarded::new(&case.pixels);
-    let mut theirs = ours.clone();
-    let pixels = ours.lent();
-    let expected = tile::decode_tile(window, width, height, depth, compression, pixels);
-    let pixels = theirs.lent();
-    let given = library::decode_tile(window, width, height, depth, compression, pixels);
-    assert_eq!(given, expected, "{}", case.summary());
-    assert_eq!(theirs.difference(&ours), None, "{}", case.summary());
-    (expected, ours.lent().to_vec())
+    let (answer, [pixels]) = agree(
+        || case.summary(),
+        |by| {
+            let mut pixels = Guarded::new(&case.pixels);
+            let lent = pixels.lent();
+            let answer = (by.decode_tile)(window, width, height, depth, compression, lent);
+            (answer, [pixels])
+        },
+    );
+    (answer, pixels)
 }
 
-/// Encodes with both and asserts that all is equal; gives the answer.
-fn encode_both(case: &EncodeCase) -> WriteAnswer {
+/// Encodes with all and asserts that they agree; gives the answer.
+fn encode_case(case: &EncodeCase) -> WriteAnswer {
     let (width, height, depth) = (case.width, case.height, case.depth);
-    let pixels = &case.pixels;
-    let mut ours = Guarded::new(&case.output);
-    let mut theirs = ours.clone();
-    let expected = tile::encode_tile(pixels, width, height, depth, ours.lent());
-    let given = library::encode_tile(pixels, width, height, depth, theirs.lent());
-    assert_eq!(given, expected, "{}", case.summary());
-    assert_eq!(theirs.difference(&ours), None, "{}", case.summary());
-    let beyond = expected.length as usize..;
-    assert!(ours.lent()[beyond.clone()] == case.output[beyond]);
-    expected
+    let (answer, [output]) = agree(
+        || case.summary(),
+        |by| {
+            let mut output = Guarded::new(&case.output);
+            let answer = (by.encode_tile)(&case.pixels, width, height, depth, output.lent());
+            (answer, [output])
+        },
+    );
+    let beyond = answer.length as usize..;
+    assert!(output[beyond.clone()] == case.output[beyond]);
+    answer
 }
 
 /// How many cases of each kind came to each outcome, a number and a mark.
@@ -92,7 +95,7 @@ fn decode_cases_agree() {
     let mut tally = Tally::default();
     for _ in 0..DECODE_CASES {
         let case = decode::random_case(&mut random);
-        let (answer, pixels) = decode_both(&case);
+        let (answer, pixels) = decode_case(&case);
         if let Some(known) = &case.known {
             assert_eq!(answer, known.answer, "{}", case.summary());
             assert_eq!(difference(&pixels, &known.pixels), None);
@@ -133,7 +136,7 @@ fn encode_cases_agree() {
     let mut tally = Tally::default();
     for _ in 0..ENCODE_CASES {
         let case = encode::random_case(&mut random);
-        let answer = encode_both(&case);
+        let answer = encode_case(&case);
         let expected: &[u64] = match case.kind {
             encode::Kind::Exact | encode::Kind::Longer => &[0],
             encode::Kind::TooShort => &[OUTPUT_TOO_SHORT],
@@ -178,7 +181,7 @@ fn every_short_window_agrees() {
     for length in 0..=5 {
         for window in sequences(&[0, 1, 2, 126, 127, 128, 129, 254, 255], length) {
             for (width, height, depth) in [(1, 1, 1), (2, 1, 1), (1, 1, 2), (1, 3, 1)] {
-                let (answer, _) = decode_both(&DecodeCase {
+                let (answer, _) = decode_case(&DecodeCase {
                     kind: decode::Kind::Noise,
                     window: window.clone(),
                     width,
@@ -203,7 +206,7 @@ fn every_short_window_agrees() {
 fn every_short_stream_agrees() {
     for length in 1..=8 {
         for pixels in sequences(&[0, 1, 255], length) {
-            let answer = encode_both(&EncodeCase {
+            let answer = encode_case(&EncodeCase {
                 kind: encode::Kind::Longer,
                 pixels,
                 width: length as u32,
@@ -222,7 +225,7 @@ fn every_count_agrees() {
     for count in 1..4096 {
         for pixels in encode::split_streams(4096, count) {
             let window = tile::encode_stream(&pixels);
-            let answer = encode_both(&EncodeCase {
+            let answer = encode_case(&EncodeCase {
                 kind: encode::Kind::Exact,
                 pixels: pixels.clone(),
                 width: 64,
@@ -231,7 +234,7 @@ fn every_count_agrees() {
                 output: vec![0xA5; window.len()],
             });
             assert_eq!(answer, WriteAnswer::written(window.len()));
-            let (answer, decoded) = decode_both(&DecodeCase {
+            let (answer, decoded) = decode_case(&DecodeCase {
                 kind: decode::Kind::Valid,
                 window,
                 width: 64,

@@ -1,5 +1,5 @@
-//! Compares the library's decoder of drawables with the reference: equal
-//! answers, equal pixels, equal marks, and the same count of marked tiles.
+//! Compares the decoders of drawables: equal answers, equal pixels, equal marks,
+//! and, where marked tiles are counted, the same count.
 
 use xcf_compare::answer::{
     BAD_TILE_POINTER, DecodeAnswer, GOOD, OVERRUN, TABLE_LENGTH, TOO_SOON, UNUSABLE, WRONG_LENGTH,
@@ -7,6 +7,7 @@ use xcf_compare::answer::{
 use xcf_compare::cases::drawable::{DrawableCase, Kind, random_case};
 use xcf_compare::decode::Drawable;
 use xcf_compare::guard::{Guarded, difference};
+use xcf_compare::implementation::agree;
 use xcf_compare::random::Random;
 use xcf_compare::tally::Tally;
 use xcf_compare::{decode, library, report};
@@ -14,29 +15,27 @@ use xcf_compare::{decode, library, report};
 const SEED: u64 = 0x6472_6177_0000_0001;
 const CASES: usize = 30_000;
 
-/// Decodes with both and asserts that all is equal; gives the answer and the
+/// Decodes with all and asserts that they agree; gives the answer and the
 /// marks.
-fn decode_both(case: &DrawableCase) -> (DecodeAnswer, Vec<u8>) {
+fn decode_case(case: &DrawableCase) -> (DecodeAnswer, Vec<u8>) {
     let (file, table) = (&case.file, &case.table);
     let (row, compression) = (case.row, case.compression);
-    let mut ours = [&case.pixels, &case.marks].map(|lent| Guarded::new(lent));
-    let mut theirs = ours.clone();
-    let [pixels, marks] = ours.each_mut().map(Guarded::lent);
-    let expected = decode::decode(file, table, row, compression, pixels, marks);
-    let [pixels, marks] = theirs.each_mut().map(Guarded::lent);
-    let given = library::decode(file, table, row, compression, pixels, marks);
-    assert_eq!(given, expected, "{}", case.summary());
-    for (ours, theirs) in ours.iter().zip(&theirs) {
-        assert_eq!(theirs.difference(ours), None, "{}", case.summary());
-    }
-    let [pixels, marks] = ours.each_mut().map(Guarded::lent);
-    if expected.number == 0 {
-        assert_zero_where_marked(case, pixels, marks);
+    let (answer, [pixels, marks]) = agree(
+        || case.summary(),
+        |by| {
+            let mut lent = [&case.pixels, &case.marks].map(|lent| Guarded::new(lent));
+            let [pixels, marks] = lent.each_mut().map(Guarded::lent);
+            let answer = (by.decode)(file, table, row, compression, pixels, marks);
+            (answer, lent)
+        },
+    );
+    if answer.number == 0 {
+        assert_zero_where_marked(case, &pixels, &marks);
     } else {
-        assert_eq!(difference(pixels, &case.pixels), None);
-        assert_eq!(difference(marks, &case.marks), None);
+        assert_eq!(difference(&pixels, &case.pixels), None);
+        assert_eq!(difference(&marks, &case.marks), None);
     }
-    (expected, marks.to_vec())
+    (answer, marks)
 }
 
 /// Asserts that the pixels of marked tiles are all zero.
@@ -140,7 +139,7 @@ fn drawables_agree() {
     let mut seen = Seen::default();
     for _ in 0..CASES {
         let case = random_case(&mut random);
-        let (answer, marks) = decode_both(&case);
+        let (answer, marks) = decode_case(&case);
         let counted = count_both(&case);
         if let Some((number, place)) = case.known {
             let given = (answer.number, answer.place as usize);

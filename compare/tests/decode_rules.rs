@@ -1,14 +1,14 @@
 //! The rules for decoding a drawable, one named case after the other, held
-//! against the reference and the library with the answers written out.
+//! against the implementations with the answers written out.
 
 use xcf_compare::answer::{
     CountMarked, DecodeAnswer, DecodeDrawable, FILE_LIMIT, Row, TABLE_LENGTH, WINDOW_LIMIT,
 };
 use xcf_compare::files::laid::{with, words};
 use xcf_compare::files::{EXAMPLE, table_of};
+use xcf_compare::implementation::ALL;
 use xcf_compare::{decode, library};
 
-const DECODERS: [DecodeDrawable; 2] = [decode::decode, library::decode];
 const COUNTERS: [CountMarked; 2] = [decode::count_marked, library::count_marked];
 
 /// What the lent buffers hold before a call.
@@ -82,11 +82,11 @@ impl Call {
         (answer, pixels, marks)
     }
 
-    /// Asserts, with both, that the call is refused and its buffers are left
+    /// Asserts, with all, that the call is refused and its buffers are left
     /// as lent.
     fn assert_not_decoded(&self, number: u64, place: usize) {
-        for decode in DECODERS {
-            let (answer, pixels, marks) = self.decode(decode);
+        for by in ALL {
+            let (answer, pixels, marks) = self.decode(by.decode);
             assert_eq!(answer, DecodeAnswer::refused(number, place));
             assert!(pixels.iter().chain(&marks).all(|&byte| byte == FILLING));
         }
@@ -100,17 +100,17 @@ impl Call {
         }
     }
 
-    /// Asserts, with both, that decoding and counting are refused.
+    /// Asserts, with all, that decoding and counting are refused.
     fn assert_refused(&self, number: u64, place: usize) {
         self.assert_not_decoded(number, place);
         self.assert_counts(DecodeAnswer::refused(number, place));
     }
 
-    /// Asserts, with both, the marks and the pixels.
+    /// Asserts, with all, the marks and the pixels.
     fn assert_decodes(&self, marks: &[u8], pixels: &[u8]) {
         let marked = marks.iter().filter(|&&mark| mark != 0).count();
-        for decode in DECODERS {
-            let given = self.decode(decode);
+        for by in ALL {
+            let given = self.decode(by.decode);
             assert_eq!(given.0, DecodeAnswer::decoded(marked));
             assert_eq!(given.2, marks);
             assert!(given.1 == pixels, "pixels differ");

@@ -1,32 +1,28 @@
 //! The examples that the rules give for streams, tiles and writing, held
-//! against the reference and the library.
+//! against the implementations.
 
-use xcf_compare::answer::{
-    Decode, Encode, GOOD, OVERRUN, TOO_SOON, TileAnswer, UNUSABLE, WriteAnswer,
-};
-use xcf_compare::{library, tile};
+use xcf_compare::answer::{GOOD, OVERRUN, TOO_SOON, TileAnswer, UNUSABLE, WriteAnswer};
+use xcf_compare::implementation::ALL;
+use xcf_compare::tile;
 
-const DECODERS: [Decode; 2] = [tile::decode_tile, library::decode_tile];
-const ENCODERS: [Encode; 2] = [tile::encode_tile, library::encode_tile];
-
-/// Decodes an encoded tile, with both, into pixels that hold other bytes
+/// Decodes an encoded tile, with all, into pixels that hold other bytes
 /// before.
 fn assert_decodes(window: &[u8], sides: [u32; 3], answer: TileAnswer, expected: &[u8]) {
     let [width, height, depth] = sides;
-    for decode in DECODERS {
+    for by in ALL {
         let mut pixels = vec![0xA5; expected.len()];
-        let given = decode(window, width, height, depth, 1, &mut pixels);
+        let given = (by.decode_tile)(window, width, height, depth, 1, &mut pixels);
         assert_eq!(given, answer, "window {window:02X?}");
         assert_eq!(pixels, expected, "window {window:02X?}");
     }
 }
 
-/// Encodes a tile, with both, into an output with room to spare.
+/// Encodes a tile, with all, into an output with room to spare.
 fn assert_encodes(pixels: &[u8], sides: [u32; 3], expected: &[u8]) {
     let [width, height, depth] = sides;
-    for encode in ENCODERS {
+    for by in ALL {
         let mut output = vec![0xA5; expected.len() + 8];
-        let answer = encode(pixels, width, height, depth, &mut output);
+        let answer = (by.encode_tile)(pixels, width, height, depth, &mut output);
         assert_eq!(answer, WriteAnswer::written(expected.len()));
         assert_eq!(&output[..expected.len()], expected);
         assert_eq!(&output[expected.len()..], [0xA5; 8]);
@@ -144,12 +140,12 @@ fn tile_of_the_whole_file() {
 
 #[test]
 fn plain_windows() {
-    for decode in DECODERS {
+    for by in ALL {
         let mut pixels = [0xA5; 4];
-        let answer = decode(&[1, 2, 3, 4, 5], 2, 1, 2, 0, &mut pixels);
+        let answer = (by.decode_tile)(&[1, 2, 3, 4, 5], 2, 1, 2, 0, &mut pixels);
         assert_eq!(answer, TileAnswer::decoded(GOOD, 4, 0));
         assert_eq!(pixels, [1, 2, 3, 4]);
-        let answer = decode(&[1, 2, 3], 2, 1, 2, 0, &mut pixels);
+        let answer = (by.decode_tile)(&[1, 2, 3], 2, 1, 2, 0, &mut pixels);
         assert_eq!(answer, TileAnswer::decoded(TOO_SOON, 0, 0));
         assert_eq!(pixels, [0; 4]);
     }
@@ -157,10 +153,10 @@ fn plain_windows() {
 
 #[test]
 fn refusal_leaves_pixels_as_lent() {
-    for decode in DECODERS {
+    for by in ALL {
         for (width, compression) in [(0, 1), (65, 1), (1, 2)] {
             let mut pixels = [0xA5];
-            let answer = decode(&[0xFF, 0x2A], width, 1, 1, compression, &mut pixels);
+            let answer = (by.decode_tile)(&[0xFF, 0x2A], width, 1, 1, compression, &mut pixels);
             assert_eq!(answer, TileAnswer::refused(UNUSABLE));
             assert_eq!(pixels, [0xA5]);
         }

@@ -1,17 +1,16 @@
 //! Files that GIMP wrote, made by `data/make`: all that GIMP says of them, and
-//! every pixel that it reads in them, is what the library gives.
+//! every pixel that it reads in them, is what the implementations give.
 
 use std::fs;
 use std::path::PathBuf;
 
-use xcf_compare::answer::{
-    DecodeAnswer, DecodeDrawable, LIST_LIMIT, OVERRUN, Read, ReadAnswer, Row, TABLE_LENGTH,
-};
+use xcf_compare::answer::{LIST_LIMIT, OVERRUN, ReadAnswer, Row, TABLE_LENGTH};
 use xcf_compare::decode::Drawable;
 use xcf_compare::gimp::{Facts, data_folder, without_places};
 use xcf_compare::guard::{Guarded, difference};
+use xcf_compare::implementation::agree;
 use xcf_compare::list::{TEXT_LENGTH, list};
-use xcf_compare::{decode, library, read, report};
+use xcf_compare::{library, report};
 
 /// The chart with a tile overwritten, and which tile of which row that is.
 const DAMAGED: &str = "chart-damaged";
@@ -34,28 +33,23 @@ struct Sample {
     table: Vec<u32>,
 }
 
-/// The answer to decoding a row, its pixels and its marks.
-struct Decoded {
-    answer: DecodeAnswer,
-    pixels: Guarded<u8>,
-    marks: Guarded<u8>,
-}
-
 impl Sample {
-    /// Reads a file with the library and with the reference: both must accept
-    /// it and give the same.
+    /// Reads a file: all must accept it and agree.
     fn new(name: &str) -> Self {
         let file = fs::read(data_file(&format!("{name}.xcf"))).unwrap();
-        let (expected, ours) = read_with(read::read, &file);
-        let (answer, mut theirs) = read_with(library::read, &file);
-        assert_eq!(answer, expected, "{name}");
-        assert_eq!(theirs.difference(&ours), None, "{name}");
+        let (answer, [table]) = agree(
+            || name.to_string(),
+            |by| {
+                let mut table = Guarded::new(&[0xA5A5_A5A5; TABLE_LENGTH]);
+                ((by.read)(&file, table.lent()), [table])
+            },
+        );
         assert_eq!(answer.number, 0, "{name}");
         Sample {
             name: name.to_string(),
             file,
             answer,
-            table: theirs.lent().to_vec(),
+            table,
         }
     }
 
@@ -74,34 +68,22 @@ impl Sample {
         &self.table.as_chunks().0[..self.answer.rows as usize]
     }
 
-    /// Decodes a row with the library and with the reference, which must give
-    /// the same; gives the pixels and marks.
+    /// Decodes a row: all must agree, and count as many marked tiles; gives the
+    /// pixels and marks.
     fn decode(&self, row: usize) -> (Vec<u8>, Vec<u8>) {
-        let ours = self.decode_with(decode::decode, row);
-        let mut theirs = self.decode_with(library::decode, row);
-        let what = format!("{}, row {row}", self.name);
-        assert_eq!(theirs.answer, ours.answer, "{what}");
-        assert_eq!(theirs.pixels.difference(&ours.pixels), None, "{what}");
-        assert_eq!(theirs.marks.difference(&ours.marks), None, "{what}");
-        let compression = self.answer.compression as u32;
-        let counted = library::count_marked(&self.file, &self.table, row as u32, compression);
-        assert_eq!(counted, ours.answer, "{what}");
-        (theirs.pixels.lent().to_vec(), theirs.marks.lent().to_vec())
-    }
-
-    fn decode_with(&self, decode: DecodeDrawable, row: usize) -> Decoded {
         let drawable = self.drawable(row);
-        let mut pixels = Guarded::new(&vec![0xA5; drawable.pixels_length()]);
-        let mut marks = Guarded::new(&vec![0xA5; drawable.tile_count()]);
-        let compression = self.answer.compression as u32;
-        let (file, table) = (&self.file, &self.table);
-        let lent = (pixels.lent(), marks.lent());
-        let answer = decode(file, table, row as u32, compression, lent.0, lent.1);
-        Decoded {
-            answer,
-            pixels,
-            marks,
-        }
+        let lengths = [drawable.pixels_length(), drawable.tile_count()];
+        let (file, table, compression) = (&self.file, &self.table, self.answer.compression as u32);
+        let what = || format!("{}, row {row}", self.name);
+        let (answer, [pixels, marks]) = agree(what, |by| {
+            let mut lent = lengths.map(|length| Guarded::new(&vec![0xA5; length]));
+            let [pixels, marks] = lent.each_mut().map(Guarded::lent);
+            let answer = (by.decode)(file, table, row as u32, compression, pixels, marks);
+            (answer, lent)
+        });
+        let counted = library::count_marked(file, table, row as u32, compression);
+        assert_eq!(counted, answer, "{}", what());
+        (pixels, marks)
     }
 
     fn drawable(&self, row: usize) -> Drawable {
@@ -113,12 +95,6 @@ impl Sample {
     fn exported(&self, row: usize) -> Vec<u8> {
         fs::read(data_file(&format!("{}.{row}.raw", self.name))).unwrap()
     }
-}
-
-fn read_with(read: Read, file: &[u8]) -> (ReadAnswer, Guarded<u32>) {
-    let mut table = Guarded::new(&[0xA5A5_A5A5; TABLE_LENGTH]);
-    let answer = read(file, table.lent());
-    (answer, table)
 }
 
 /// The names of the folder's files that end so, without that end, sorted.

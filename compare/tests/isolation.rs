@@ -8,9 +8,10 @@ use xcf_compare::answer::{DecodeAnswer, DecodeDrawable, ROW_LENGTH, ReadAnswer, 
 use xcf_compare::decode::Drawable;
 use xcf_compare::files::laid::layered;
 use xcf_compare::files::{EXAMPLE, decodable_file, random_table};
+use xcf_compare::implementation::{PLAIN, REFERENCE};
 use xcf_compare::random::Random;
 use xcf_compare::read::structure_bytes;
-use xcf_compare::{decode, library, report};
+use xcf_compare::{library, report};
 
 const SEED: u64 = 0x6973_6F6C_0000_0001;
 const PAIRS: usize = 6_000;
@@ -311,8 +312,10 @@ fn compare(
             assert!(decoded == again, "row {row} shows what the buffers held");
             decoded
         });
-        let expected = Decoded::new(random, decode::decode, files[1], reading, row);
-        assert!(new == expected, "row {row}");
+        for other in [REFERENCE, PLAIN] {
+            let expected = Decoded::new(random, other.decode, files[1], reading, row);
+            assert!(new == expected, "{}: row {row}", other.name);
+        }
         for &Tile {
             tile, is_chosen, ..
         } in tiles

@@ -1,12 +1,12 @@
-//! Compares the library's reader with the reference: equal answers, equal
-//! tables.
+//! Compares the readers: equal answers, equal tables.
 
 use xcf_compare::answer::{FILE_LIMIT, FILE_TOO_LONG, NOT_XCF, ReadAnswer, Row, TABLE_LENGTH};
 use xcf_compare::files::{EXAMPLE, FileCase, Kind, Known, random_case, random_file, table_of};
 use xcf_compare::guard::{Guarded, difference};
+use xcf_compare::implementation::agree;
 use xcf_compare::random::Random;
+use xcf_compare::report;
 use xcf_compare::tally::Tally;
-use xcf_compare::{library, read, report};
 
 const FILES_SEED: u64 = 0x6669_6C65_7300_0001;
 const CUTS_SEED: u64 = 0x6375_7473_0000_0001;
@@ -15,16 +15,16 @@ const FILE_CASES: usize = 60_000;
 /// The refusals that a file of a usable length can meet.
 const NUMBERS: [u64; 14] = [1, 2, 3, 4, 5, 6, 7, 8, 9, 10, 11, 12, 13, 16];
 
-/// Reads with both and asserts that all is equal; gives the answer and the
-/// table.
-fn read_both(case: &FileCase) -> (ReadAnswer, Vec<u32>) {
-    let mut ours = Guarded::new(&case.table);
-    let mut theirs = ours.clone();
-    let expected = read::read(&case.file, ours.lent());
-    let given = library::read(&case.file, theirs.lent());
-    assert_eq!(given, expected, "{}", case.summary());
-    assert_eq!(theirs.difference(&ours), None, "{}", case.summary());
-    (expected, ours.lent().to_vec())
+/// Reads with all and asserts that they agree; gives the answer and the table.
+fn read_case(case: &FileCase) -> (ReadAnswer, Vec<u32>) {
+    let (answer, [table]) = agree(
+        || case.summary(),
+        |by| {
+            let mut table = Guarded::new(&case.table);
+            ((by.read)(&case.file, table.lent()), [table])
+        },
+    );
+    (answer, table)
 }
 
 /// Asserts that an answer and a table are the known ones.
@@ -44,7 +44,7 @@ fn files_agree() {
     let (mut known_cases, mut rows, mut full_tables) = (0, 0, 0);
     for _ in 0..FILE_CASES {
         let case = random_case(&mut random);
-        let (answer, table) = read_both(&case);
+        let (answer, table) = read_case(&case);
         if let Some(known) = &case.known {
             assert_known(&case, known, answer, &table);
             known_cases += 1;
@@ -107,7 +107,7 @@ fn every_byte_of_the_example_agrees() {
         for value in 0..=255 {
             let mut file = EXAMPLE.to_vec();
             file[place] = value;
-            let (answer, _) = read_both(&file_case(file));
+            let (answer, _) = read_case(&file_case(file));
             tally.add(Kind::Byte, answer.number);
         }
     }
@@ -130,7 +130,7 @@ fn every_word_of_the_example_agrees() {
         for value in &values {
             let mut file = EXAMPLE.to_vec();
             file[place..place + 4].copy_from_slice(&value.to_be_bytes());
-            read_both(&file_case(file));
+            read_case(&file_case(file));
         }
     }
 }
@@ -143,10 +143,10 @@ fn every_cut_agrees() {
     let mut tally = Tally::default();
     for _ in 0..40 {
         let built = random_file(&mut random);
-        let (answer, _) = read_both(&file_case(built.bytes.clone()));
+        let (answer, _) = read_case(&file_case(built.bytes.clone()));
         assert_eq!(answer, built.known.answer);
         for length in 0..built.bytes.len().min(2_000) {
-            let (answer, _) = read_both(&file_case(built.bytes[..length].to_vec()));
+            let (answer, _) = read_case(&file_case(built.bytes[..length].to_vec()));
             assert!([0, 1, 13].contains(&answer.number), "{length}: {answer:?}");
             tally.add(Kind::Cut, answer.number);
         }
@@ -163,12 +163,16 @@ fn padded_example(length: usize) -> Vec<u8> {
     file
 }
 
-/// Reads with the reference and with the library, each with its own table.
-fn read_long(file: &[u8], table_length: usize) -> [(ReadAnswer, Vec<u32>); 2] {
-    [read::read, library::read].map(|read| {
-        let mut table = vec![0xA5A5_A5A5; table_length];
-        (read(file, &mut table), table)
-    })
+/// Reads with all, which agree, into a table of so many numbers.
+fn read_long(file: &[u8], table_length: usize) -> (ReadAnswer, Vec<u32>) {
+    let (answer, [table]) = agree(
+        || format!("{} bytes", file.len()),
+        |by| {
+            let mut table = Guarded::new(&vec![0xA5A5_A5A5; table_length]);
+            ((by.read)(file, table.lent()), [table])
+        },
+    );
+    (answer, table)
 }
 
 /// A file is too long from one byte above the limit on; a table of the wrong
@@ -176,31 +180,26 @@ fn read_long(file: &[u8], table_length: usize) -> [(ReadAnswer, Vec<u32>); 2] {
 #[test]
 fn file_limit() {
     let mut file = padded_example(FILE_LIMIT + 1);
-    for (answer, table) in read_long(&file, TABLE_LENGTH) {
-        assert_eq!(answer, ReadAnswer::refused(FILE_TOO_LONG, 0));
-        assert!(table == [0xA5A5_A5A5; TABLE_LENGTH]);
-    }
-    for (answer, table) in read_long(&file, TABLE_LENGTH - 1) {
-        assert_eq!(answer, ReadAnswer::refused(11, 0));
-        assert!(table == [0xA5A5_A5A5; TABLE_LENGTH - 1]);
-    }
+    let (answer, table) = read_long(&file, TABLE_LENGTH);
+    assert_eq!(answer, ReadAnswer::refused(FILE_TOO_LONG, 0));
+    assert!(table == [0xA5A5_A5A5; TABLE_LENGTH]);
+    let (answer, table) = read_long(&file, TABLE_LENGTH - 1);
+    assert_eq!(answer, ReadAnswer::refused(11, 0));
+    assert!(table == [0xA5A5_A5A5; TABLE_LENGTH - 1]);
     file.truncate(FILE_LIMIT);
     // The only tile may be the last byte.
     file[133..137].copy_from_slice(&(FILE_LIMIT as u32 - 1).to_be_bytes());
     let row = [3, 1, 1, 1, 2, 67, 1, 69, 133, 1, 255, 1, 0, 0, 0, 0];
-    for (answer, table) in read_long(&file, TABLE_LENGTH) {
-        assert_eq!((answer.number, answer.place, answer.rows), (0, 0, 1));
-        assert_eq!(difference(&table, &table_of(&[row])), None);
-    }
+    let (answer, table) = read_long(&file, TABLE_LENGTH);
+    assert_eq!((answer.number, answer.place, answer.rows), (0, 0, 1));
+    assert_eq!(difference(&table, &table_of(&[row])), None);
     file[133..137].copy_from_slice(&(FILE_LIMIT as u32).to_be_bytes());
-    for (answer, table) in read_long(&file, TABLE_LENGTH) {
-        assert_eq!(answer, ReadAnswer::refused(13, 133));
-        assert!(table == [0; TABLE_LENGTH]);
-    }
+    let (answer, table) = read_long(&file, TABLE_LENGTH);
+    assert_eq!(answer, ReadAnswer::refused(13, 133));
+    assert!(table == [0; TABLE_LENGTH]);
     file[0] = 0;
-    for (answer, _) in read_long(&file, TABLE_LENGTH) {
-        assert_eq!(answer, ReadAnswer::refused(NOT_XCF, 0));
-    }
+    let (answer, _) = read_long(&file, TABLE_LENGTH);
+    assert_eq!(answer, ReadAnswer::refused(NOT_XCF, 0));
 }
 
 /// Words as bytes.
@@ -218,13 +217,13 @@ fn largest_sides() {
     }
     file.extend(words(1..=65_536));
     file.extend(words([0]));
-    let (answer, table) = read_both(&file_case(file.clone()));
+    let (answer, table) = read_case(&file_case(file.clone()));
     assert_eq!((answer.number, answer.width, answer.rows), (0, 16_384, 1));
     assert_eq!(table[8..10], [133, 65_536]);
     for (place, value) in [(133, 0), (262_273, 65_535), (262_277, 1)] {
         let mut file = file.clone();
         file[place..place + 4].copy_from_slice(&u32::to_be_bytes(value));
-        let (answer, _) = read_both(&file_case(file));
+        let (answer, _) = read_case(&file_case(file));
         assert_eq!(answer, ReadAnswer::refused(13, place));
     }
 }
@@ -270,7 +269,7 @@ fn most_shared_rows() -> Vec<Row> {
 fn most_sharing() {
     let case = file_case(most_shared());
     assert_eq!(case.file.len(), 262_594);
-    let (answer, table) = read_both(&case);
+    let (answer, table) = read_case(&case);
     let known = Known {
         answer: ReadAnswer {
             number: 0,

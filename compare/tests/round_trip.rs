@@ -4,9 +4,10 @@
 use xcf_compare::answer::{Decode, Encode, GOOD, TileAnswer};
 use xcf_compare::cases::Shape;
 use xcf_compare::cases::encode::{hard_stream, random_pixels, random_stream};
+use xcf_compare::implementation::{ALL, LIBRARY, PLAIN};
 use xcf_compare::random::Random;
+use xcf_compare::report;
 use xcf_compare::tile::{encode_stream, stream_bound};
-use xcf_compare::{library, report, tile};
 
 const ROUND_TRIP_SEED: u64 = 0x726F_756E_6400_0001;
 const BOUND_SEED: u64 = 0x626F_756E_6400_0001;
@@ -58,19 +59,16 @@ fn count_operations(pixels: &[u8], depth: usize) -> usize {
         .sum()
 }
 
+/// Each implementation decodes what each encodes.
 #[test]
-fn reference_round_trip() {
-    let mut random = Random::new(ROUND_TRIP_SEED);
-    for _ in 0..ROUND_TRIPS {
-        round_trip(&mut random, tile::encode_tile, tile::decode_tile);
-    }
-}
-
-#[test]
-fn library_round_trip() {
-    let mut random = Random::new(ROUND_TRIP_SEED);
-    for _ in 0..ROUND_TRIPS {
-        round_trip(&mut random, library::encode_tile, library::decode_tile);
+fn round_trips() {
+    for encoder in ALL {
+        for decoder in ALL {
+            let mut random = Random::new(ROUND_TRIP_SEED);
+            for _ in 0..ROUND_TRIPS {
+                round_trip(&mut random, encoder.encode_tile, decoder.decode_tile);
+            }
+        }
     }
 }
 
@@ -112,20 +110,22 @@ fn reference_stays_within_the_bound() {
 }
 
 #[test]
-fn library_stays_within_the_bound() {
-    let mut random = Random::new(BOUND_SEED);
-    let mut at_bound = 0;
-    for (width, height) in (1..=64).flat_map(|w| (w..=64).map(move |h| (w, h))) {
-        let length = (width * height) as usize;
-        for stream in demanding_streams(&mut random, length) {
-            let mut output = output_for(Shape::new(width, height, 1));
-            let answer = library::encode_tile(&stream, width, height, 1, &mut output);
-            assert_eq!(answer.number, 0, "{width} by {height}");
-            assert!(answer.length as usize <= stream_bound(length));
-            at_bound += usize::from(answer.length as usize == stream_bound(length));
+fn tiles_stay_within_the_bound() {
+    for by in [LIBRARY, PLAIN] {
+        let mut random = Random::new(BOUND_SEED);
+        let mut at_bound = 0;
+        for (width, height) in (1..=64).flat_map(|w| (w..=64).map(move |h| (w, h))) {
+            let length = (width * height) as usize;
+            for stream in demanding_streams(&mut random, length) {
+                let mut output = output_for(Shape::new(width, height, 1));
+                let answer = (by.encode_tile)(&stream, width, height, 1, &mut output);
+                assert_eq!(answer.number, 0, "{width} by {height}");
+                assert!(answer.length as usize <= stream_bound(length));
+                at_bound += usize::from(answer.length as usize == stream_bound(length));
+            }
         }
+        report_at_bound(by.name, at_bound);
     }
-    report_at_bound("library", at_bound);
 }
 
 /// Prints, even where output is captured, how many streams took all the bytes

@@ -1,15 +1,16 @@
-//! Compares the library's writer with the reference: equal answers, equal
-//! outputs. What is written is read and decoded to what it was written from.
+//! Compares the writers: equal answers, equal outputs. What is written is read
+//! and decoded to what it was written from.
 
 use xcf_compare::answer::{
-    BAD_BASE, BAD_SIDE, DecodeAnswer, DecodeDrawable, OUTPUT_TOO_SHORT, Read, ReadAnswer, Row,
+    BAD_BASE, BAD_SIDE, DecodeAnswer, DecodeDrawable, OUTPUT_TOO_SHORT, ReadAnswer, Row,
     TABLE_LENGTH, UNUSABLE_ROW, WRONG_LENGTH, WriteAnswer,
 };
 use xcf_compare::guard::difference;
+use xcf_compare::implementation::{ALL, agree};
 use xcf_compare::random::Random;
 use xcf_compare::tables::{Fault, Kind, TableCase, random_case, valid_case};
 use xcf_compare::tally::Tally;
-use xcf_compare::{decode, library, read, report, write};
+use xcf_compare::{report, write};
 
 const SEED: u64 = 0x7772_6974_6500_0001;
 const REFERENCE_SEED: u64 = 0x7772_6974_6500_0002;
@@ -25,14 +26,17 @@ const NUMBERS: [u64; 5] = [
     OUTPUT_TOO_SHORT,
 ];
 
-/// Writes with both and asserts that all is equal; gives the answer and the
+/// Writes with all and asserts that they agree; gives the answer and the
 /// output.
-fn write_both(case: &TableCase) -> (WriteAnswer, Vec<u8>) {
-    let (expected, mut ours) = case.write(write::write);
-    let (given, theirs) = case.write(library::write);
-    assert_eq!(given, expected, "{}", case.summary());
-    assert_eq!(theirs.difference(&ours), None, "{}", case.summary());
-    (expected, ours.lent().to_vec())
+fn write_case(case: &TableCase) -> (WriteAnswer, Vec<u8>) {
+    let (answer, [output]) = agree(
+        || case.summary(),
+        |by| {
+            let (answer, output) = case.write(by.write);
+            (answer, [output])
+        },
+    );
+    (answer, output)
 }
 
 /// Asserts that the output is as lent behind what was written, and that answer
@@ -47,16 +51,15 @@ fn assert_known(case: &TableCase, answer: WriteAnswer, output: &[u8]) {
     }
 }
 
-/// Asserts, with both readers and decoders, that a file gives back the canvas,
+/// Asserts, with all readers and decoders, that a file gives back the canvas,
 /// the rows, their names and their pixels.
 fn assert_reads_back(case: &TableCase, file: &[u8]) {
-    let reference: (Read, DecodeDrawable) = (read::read, decode::decode);
-    for (read, decode) in [reference, (library::read, library::decode)] {
+    for by in ALL {
         let mut table = vec![0xA5A5_A5A5; TABLE_LENGTH];
-        let answer = read(file, &mut table);
+        let answer = (by.read)(file, &mut table);
         assert_eq!(answer, answer_to_reading(case), "{}", case.summary());
         assert_same_rows(case, file, &table);
-        assert_same_pixels(case, file, &table, decode);
+        assert_same_pixels(case, file, &table, by.decode);
     }
 }
 
@@ -201,7 +204,7 @@ fn written_files_agree() {
     let mut seen = Seen::default();
     for _ in 0..CASES {
         let case = random_case(&mut random);
-        let (answer, output) = write_both(&case);
+        let (answer, output) = write_case(&case);
         assert_known(&case, answer, &output);
         if answer.number == 0 {
             assert_reads_back(&case, &output[..answer.length as usize]);

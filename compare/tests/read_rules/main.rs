@@ -1,29 +1,27 @@
 //! The rules for reading, one named case after the other, held against the
-//! reference and the library with the answers written out.
+//! implementations with the answers written out.
 
 mod acceptances;
 mod order;
 mod refusals;
 
-use xcf_compare::answer::{Read, ReadAnswer, Row, TABLE_LENGTH};
-use xcf_compare::{library, read};
-
-const READERS: [Read; 2] = [read::read, library::read];
+use xcf_compare::answer::{ReadAnswer, Row, TABLE_LENGTH};
+use xcf_compare::implementation::ALL;
 
 /// What the tables hold before a call.
 const FILLING: u32 = 0xA5A5_A5A5;
 
-/// Asserts, with both, that a file is refused and the table made zero.
+/// Asserts, with all, that a file is refused and the table made zero.
 fn assert_refused(file: &[u8], number: u64, place: usize) {
-    for read in READERS {
+    for by in ALL {
         let mut table = vec![FILLING; TABLE_LENGTH];
-        let answer = read(file, &mut table);
+        let answer = (by.read)(file, &mut table);
         assert_eq!(answer, ReadAnswer::refused(number, place));
         assert!(table == [0; TABLE_LENGTH], "{number} at {place}");
     }
 }
 
-/// Asserts, with both, that a file is accepted with the image's five numbers
+/// Asserts, with all, that a file is accepted with the image's five numbers
 /// (sides, base, version, compression) and the rows, and no others.
 fn assert_accepted(file: &[u8], image: [u64; 5], rows: &[Row]) {
     let [width, height, base, version, compression] = image;
@@ -37,9 +35,9 @@ fn assert_accepted(file: &[u8], image: [u64; 5], rows: &[Row]) {
         compression,
         rows: rows.len() as u64,
     };
-    for read in READERS {
+    for by in ALL {
         let mut table = vec![FILLING; TABLE_LENGTH];
-        let answer = read(file, &mut table);
+        let answer = (by.read)(file, &mut table);
         assert_eq!(answer, expected);
         let used = rows.as_flattened();
         assert_eq!(&table[..used.len()], used);
@@ -47,11 +45,11 @@ fn assert_accepted(file: &[u8], image: [u64; 5], rows: &[Row]) {
     }
 }
 
-/// Asserts, with both, that a table of another length is left as lent.
+/// Asserts, with all, that a table of another length is left as lent.
 fn assert_wrong_table(file: &[u8], length: usize) {
-    for read in READERS {
+    for by in ALL {
         let mut table = vec![FILLING; length];
-        assert_eq!(read(file, &mut table), ReadAnswer::refused(11, 0));
+        assert_eq!((by.read)(file, &mut table), ReadAnswer::refused(11, 0));
         assert!(table.iter().all(|&number| number == FILLING));
     }
 }

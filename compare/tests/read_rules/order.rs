@@ -7,17 +7,18 @@ use xcf_compare::files::laid::{
     END, channel, empty_image, grey_layer, image_start, layered, masked_layer, pointers_only,
     property, with, with_byte, words,
 };
+use xcf_compare::implementation::ALL;
 
-use crate::{READERS, assert_refused, assert_wrong_table};
+use crate::{assert_refused, assert_wrong_table};
 
 #[test]
 fn wrong_table_before_a_long_file() {
     // Memory that is zero from the start is not touched before it is used.
     let file = vec![0; FILE_LIMIT + 1];
     assert_wrong_table(&file, TABLE_LENGTH + 1);
-    for read in READERS {
+    for by in ALL {
         let mut table = [7; TABLE_LENGTH];
-        assert_eq!(read(&file, &mut table), ReadAnswer::refused(15, 0));
+        assert_eq!((by.read)(&file, &mut table), ReadAnswer::refused(15, 0));
         assert!(table == [7; TABLE_LENGTH]);
     }
 }

@@ -3,7 +3,7 @@
 use xcf_compare::answer::{Row, TABLE_LENGTH};
 use xcf_compare::files::EXAMPLE;
 use xcf_compare::files::laid::{END, byte_property, lay, property, words};
-use xcf_compare::{library, read};
+use xcf_compare::implementation::ALL;
 
 use crate::{CHANNEL, Call, LAYER, MASK, ROWS, word};
 
@@ -235,12 +235,12 @@ fn layers_beside_the_canvas() {
     }
 }
 
-/// Asserts that both readers accept the file and give the rows, but for the
+/// Asserts that all readers accept the file and give the rows, but for the
 /// places in it.
 fn assert_reads_back(file: &[u8], rows: &[Row]) {
-    for read in [read::read, library::read] {
+    for by in ALL {
         let mut table = vec![0; TABLE_LENGTH];
-        let answer = read(file, &mut table);
+        let answer = (by.read)(file, &mut table);
         assert_eq!((answer.number, answer.rows), (0, rows.len() as u64));
         let (found, _) = table.as_chunks_mut();
         for (row, found) in rows.iter().zip(found) {

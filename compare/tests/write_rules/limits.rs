@@ -2,7 +2,7 @@
 
 use xcf_compare::answer::{FILE_LIMIT, Row, WriteAnswer};
 use xcf_compare::files::table_of;
-use xcf_compare::library;
+use xcf_compare::implementation::{LIBRARY, PLAIN};
 
 use crate::{FILLING, LAYER};
 
@@ -35,22 +35,25 @@ fn rows(last_name: u32) -> [Row; 5] {
 }
 
 /// A file of one byte above the limit is refused, though there is room; one of
-/// the limit is written. The answers are written out, so only the library is
-/// run: the pixels and the one output take about 2.2 GB of memory, and nothing
-/// else here is large.
+/// the limit is written. The answers are written out, so that the reference is
+/// not run: the pixels and the one output take about 2.2 GB of memory, and the
+/// plain writer as much as the output again.
 #[test]
 fn file_limit() {
     let length = |name: u32| 51 + 5 * 120 + 2 * 1_025 + name as usize + 1 + TILES * TILE;
     assert_eq!(length(434), FILE_LIMIT);
     let pixels = [0, 1].repeat(TILES * 2_048);
     let mut output = vec![FILLING; FILE_LIMIT + 1];
-    let mut call = |name: u32| {
-        let table = table_of(&rows(name));
-        let answer = library::write(1, 1, 1, &table, &[b'n'; 1_024], &pixels, &mut output);
-        (answer, output[0], output[FILE_LIMIT])
-    };
-    let refused = WriteAnswer::refused(18);
-    assert_eq!(call(435), (refused, FILLING, FILLING));
-    let written = WriteAnswer::written(FILE_LIMIT);
-    assert_eq!(call(434), (written, b'g', FILLING));
+    for by in [LIBRARY, PLAIN] {
+        output[0] = FILLING;
+        let mut call = |name: u32| {
+            let table = table_of(&rows(name));
+            let answer = (by.write)(1, 1, 1, &table, &[b'n'; 1_024], &pixels, &mut output);
+            (answer, output[0], output[FILE_LIMIT])
+        };
+        let refused = WriteAnswer::refused(18);
+        assert_eq!(call(435), (refused, FILLING, FILLING));
+        let written = WriteAnswer::written(FILE_LIMIT);
+        assert_eq!(call(434), (written, b'g', FILLING));
+    }
 }

@@ -1,5 +1,5 @@
 //! The rules for writing, one named case after the other, held against the
-//! reference and the library with the answers written out.
+//! implementations with the answers written out.
 
 mod files;
 mod limits;
@@ -10,9 +10,7 @@ mod tiles;
 
 use xcf_compare::answer::{Row, Write, WriteAnswer};
 use xcf_compare::files::table_of;
-use xcf_compare::{library, write};
-
-const WRITERS: [Write; 2] = [write::write, library::write];
+use xcf_compare::implementation::ALL;
 
 /// What the output holds before a call.
 const FILLING: u8 = 0xA5;
@@ -139,22 +137,22 @@ impl Call {
         (answer, output)
     }
 
-    /// Asserts, with both, that the call is refused and the output left as
+    /// Asserts, with all, that the call is refused and the output left as
     /// lent.
     fn assert_refused(&self, number: u64, place: usize) {
-        for write in WRITERS {
-            let (answer, output) = self.write(write);
+        for by in ALL {
+            let (answer, output) = self.write(by.write);
             assert_eq!(answer, WriteAnswer::refused_at(number, place));
             assert!(output.iter().all(|&byte| byte == FILLING));
         }
     }
 
-    /// Asserts, with both, that a row is the lowest bad one.
+    /// Asserts, with all, that a row is the lowest bad one.
     fn assert_bad(&self, row: usize) {
         self.assert_refused(17, row);
     }
 
-    /// Asserts, with both, that a number in a row makes it the lowest bad one,
+    /// Asserts, with all, that a number in a row makes it the lowest bad one,
     /// whichever of the values it is.
     fn assert_all_bad(&self, row: usize, field: usize, values: &[u32]) {
         for &value in values {
@@ -162,17 +160,17 @@ impl Call {
         }
     }
 
-    /// Asserts that both accept the call and write the same, and nothing
+    /// Asserts that all accept the call and write the same, and nothing
     /// behind that; gives the file.
     fn file(&self) -> Vec<u8> {
-        let [ours, theirs] = WRITERS.map(|write| {
-            let (answer, output) = self.write(write);
+        let [ours, others @ ..] = ALL.map(|by| {
+            let (answer, output) = self.write(by.write);
             assert_eq!((answer.number, answer.place), (0, 0));
             let (file, beyond) = output.split_at(answer.length as usize);
             assert!(beyond.iter().all(|&byte| byte == FILLING));
             file.to_vec()
         });
-        assert!(ours == theirs, "files differ");
+        assert!(others.iter().all(|file| *file == ours), "files differ");
         ours
     }
 }

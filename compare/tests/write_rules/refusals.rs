@@ -2,7 +2,9 @@
 
 use xcf_compare::files::EXAMPLE;
 
-use crate::{Call, FILLING, WRITERS};
+use xcf_compare::implementation::ALL;
+
+use crate::{Call, FILLING};
 
 #[test]
 fn number_11_for_the_table() {
@@ -58,8 +60,8 @@ fn number_18() {
 #[test]
 fn room_enough() {
     for (length, beyond) in [(143, 0), (144, 1), (143 + 50, 50)] {
-        for write in WRITERS {
-            let (answer, output) = Call::example().lent(length).write(write);
+        for by in ALL {
+            let (answer, output) = Call::example().lent(length).write(by.write);
             assert_eq!((answer.number, answer.place, answer.length), (0, 0, 143));
             let expected = [&EXAMPLE[..], &vec![FILLING; beyond]].concat();
             assert_eq!(output, expected);
