@@ -4,3 +4,5 @@ pub mod Advances
 pub mod Resume
 pub mod Within
 pub mod Loops
+pub mod PointersLoop
+pub mod Tiles

@@ -1,3 +1,4 @@
-// A file read front to back from one moving place: words, strings and property lists.
+// A file read front to back from one moving place: words, strings, property lists and lists of pointers.
 pub mod cursor;
+mod pointers;
 mod property;
