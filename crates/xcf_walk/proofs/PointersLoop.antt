@@ -7,12 +7,10 @@ use mathlib.Core.Path.{_≡_, refl, sym, _∙_, ap}
 use mathlib.Core.List.{List, [], _∷_, _++_, append-nil, append-assoc}
 use mathlib.Core.Bool.{Bool, true, false, true≢false, false≢true}
 use native.Mathlib.Nat.{sub-zero}
-use native.Mathlib.Numerals.{add-one}
 use native.Mathlib.Omega.{arith}
 use borrow.Author.Tests.{ltb-true, lt-ltb, eqb-true, eqb-false, eq-eqb, ne-eqb}
 use lib.Dec.{ltb, eqb}
-use lib.ListN.{length, take, set, replicate, length-set}
-use lib.Seq.{length-take-le, take-suc-set, set-at, append-snoc}
+use lib.ListN.{take, set, replicate}
 use Rattle.xcf_numbers.specs.Limit.{layerLimit}
 use Rattle.xcf_numbers.specs.Refusal
 use Rattle.xcf_walk.specs.declared.cursor.Cursor.{Cursor}
@@ -22,6 +20,7 @@ use Rattle.xcf_walk.specs.Pointers.{pointers, PointersGiven}
 use Rattle.xcf_walk.specs.Parts.{Another, PointerRead}
 use Rattle.xcf_walk.proofs.Resume.{then, then-here, ends, by-check, reads-live, reads-none}
 use Rattle.xcf_walk.proofs.Within.{read-is-live, check-keeps, check-live}
+use Rattle.xcf_walk.proofs.Standing.{Standing, none-stands, one-taken, one-stands}
 
 module _ (size : ℕ) {c d : Cursor} {f : List ℕ} {v : ℕ} (r : Reads c (number size) f 0 d v) where
   none-left : {next : Cursor} {test : Bool} → test ≡ eqb v 0 → next ≡ checked d test Refusal.tooMany (c .at) → Leads c (pointers size 0) f next []
@@ -50,33 +49,6 @@ module _ (size : ℕ) {c d : Cursor} {f : List ℕ} {v : ℕ} (r : Reads c (numb
           record { room = ltb-true _ _ (kept .1); read = rw (kept .0) (r .leads); nonzero = pointer };
       over = λ t. too-many left e (eqb-false _ _ t);
     }
-
--- n elements of a list stand at its start, and zeros behind them
-pub record Standing (n : ℕ) (list : List ℕ) : Type 0 where
-  pub size : length list ≡ layerLimit
-  pub zeros : list ≡ take n list ++ replicate (layerLimit - n) 0
-
-pub none-stands : Standing 0 (replicate layerLimit 0)
-none-stands = record { size = refl; zeros = refl }
-
-module _ {n : ℕ} {list : List ℕ} (s : Standing n list) (h : suc n ≤ layerLimit) (v : ℕ) where
-  one-taken : take (n + 1) (set list n v) ≡ take n list ++ (v ∷ [])
-  one-taken = rw add-one (take-suc-set list n v (omega (arith, s .size)))
-
-  pub one-stands : Standing (n + 1) (set list n v)
-  one-stands = record { size = length-set list n v ∙ s .size; zeros = placed ∙ sym (rw one-taken (append-assoc (take n list) (v ∷ []) rest)) }
-    where
-      rest : List ℕ
-      rest = replicate (layerLimit - (n + 1)) 0
-
-      one : layerLimit - n ≡ suc (layerLimit - (n + 1))
-      one = omega (arith, h)
-
-      split : list ≡ take n list ++ 0 ∷ rest
-      split = rw one at (s .zeros)
-
-      placed : set list n v ≡ take n list ++ v ∷ rest
-      placed = ap (λ (l : List ℕ). set l n v) split ∙ set-at (take n list) 0 rest v n (length-take-le n list (omega (arith, s .size)))
 
 -- of at most so many pointers from c on count stand in the list, and the loop goes on or is over: where what is left leads, the whole leads
 -- with them in front

@@ -13,7 +13,7 @@ use xcf_numbers::limit::LAYER_LIMIT;
 use xcf_numbers::refusal;
 use xcf_store::rising::rising_pointers;
 
-// The pointers read, at the list's start, and zeros behind them; beside a refusal there are none.
+// The pointers read, at the list's start, and zeros behind them; beside a refusal there are none. The longest list is the layers'.
 pub struct PointersRead {
     pub list: [u32; LAYER_LIMIT as usize],
     pub count: u32,
@@ -69,8 +69,12 @@ impl Cursor {
         requires { ⌜ PointerSize size × (most ≤ layerLimit) ⌝ }
         ensures { λ r. ⌜ PointersGiven size most self (now (file .entry)) (r .cursor) (r .count) (r .list) ⌝ }
     {
+        let mut read = PointersRead {
+            list: [0u32; LAYER_LIMIT as usize],
+            count: 0,
+            cursor: self,
+        };
         let mut next = self;
-        let mut list = [0u32; LAYER_LIMIT as usize];
         let mut count: u32 = 0;
         let mut again = true;
         while again {
@@ -78,19 +82,19 @@ impl Cursor {
             next = turn.cursor;
             again = turn.again;
             if again {
-                list[count as usize] = turn.value;
+                let at = count as usize;
+                read.list[at] = turn.value;
                 count += 1;
             }
         }
+        read.cursor = next;
         if next.number != 0 {
-            list = [0u32; LAYER_LIMIT as usize];
-            count = 0;
+            read.list = [0u32; LAYER_LIMIT as usize];
+            read.count = 0;
+            return read;
         }
-        PointersRead {
-            list,
-            count,
-            cursor: next,
-        }
+        read.count = count;
+        read
     }
 
     // The tile pointers that are right, from a refused cursor none.

@@ -36,10 +36,10 @@ read-head-requires : tie.Need-read-head-requires
 read-head-requires c κs = search needs
 
 pointers-requires : tie.Need-pointers-requires
-pointers-requires c κs = search needs
+pointers-requires c κs = (begin (c .before) .pre .0, omega arith)
 
 pointers-requires-2 : tie.Need-pointers-requires-2
-pointers-requires-2 c κs = search needs
+pointers-requires-2 c κs = (begin (c .before .before) .pre .0, omega arith)
 
 canvas-of-requires : tie.Need-canvas-of-requires
 canvas-of-requires c κs = search needs

@@ -10,10 +10,10 @@ use Rattle.xcf_walk.proofs.cursor.Cursor.pointers.Statement.{statement}
 use Rattle.xcf_walk.proofs.cursor.Cursor.pointers.Tie as tie
 
 abbrev Inv-loop : tie.InvT-loop
-Inv-loop file size most next₀ list₀ count₀ again₀ next list count again = PointersGoing size file next₀ most again next count list
+Inv-loop file size most read₀ next₀ count₀ again₀ read next count again = PointersGoing size file next₀ most again next count (read .list)
 
 abbrev μ-loop : tie.MeasureT-loop
-μ-loop file size most next₀ list₀ count₀ again₀ next list count again = cond again (suc (most - count)) 0
+μ-loop file size most read₀ next₀ count₀ again₀ read next count again = cond again (suc (most - count)) 0
 
 -- from a pointer that was read to the loop's head, and from there to the start
 abbrev turn : tie.Then1 Inv-loop μ-loop → tie.In-loop Inv-loop μ-loop
@@ -35,14 +35,14 @@ sub-pointer-turn c = c .before .loop .inv .inside
 pointer-turn-requires : tie.Need-pointer-turn-requires Inv-loop μ-loop
 pointer-turn-requires c κs = begin c .pre .0
 
-cast-list : tie.Need-cast-list Inv-loop μ-loop
-cast-list c = search needs
+cast-at : tie.Need-cast-at Inv-loop μ-loop
+cast-at c = search needs
 
-mul-list : tie.Need-mul-list Inv-loop μ-loop
-mul-list c = omega (arith, room c, begin (turn c) .pre .1)
+mul-read : tie.Need-mul-read Inv-loop μ-loop
+mul-read c = omega (arith, room c, begin (turn c) .pre .1)
 
-array-write-list : tie.Need-array-write-list Inv-loop μ-loop
-array-write-list c = omega (arith, room c, begin (turn c) .pre .1)
+element-write-read : tie.Need-element-write-read Inv-loop μ-loop
+element-write-read c = omega (arith, room c, begin (turn c) .pre .1)
 
 add-count : tie.Need-add-count Inv-loop μ-loop
 add-count c = omega (arith, room c, begin (turn c) .pre .1)
@@ -60,10 +60,10 @@ loop-again-2 : tie.Need-loop-again-2 Inv-loop μ-loop
 loop-again-2 c = going-last (c .before .before .before .before .loop .inv) (c .before .before .before .loop-test .taken) (c .before .before .pointer-turn .ensures) (c .if1 .left)
 
 returns : tie.Need-returns Inv-loop μ-loop
-returns c = given-none (c .before .before .before .loop .inv) (c .before .before .loop-test .left) (c .if2 .taken)
+returns c = let e = c .before .before .before in given-none (e .before .loop .inv) (e .loop-test .left) (c .before .if2 .taken)
 
 returns-2 : tie.Need-returns-2 Inv-loop μ-loop
-returns-2 c = given-live (c .before .before .before .loop .inv) (c .before .before .loop-test .left) (c .if2 .left)
+returns-2 c = let e = c .before .before in given-live (e .before .loop .inv) (e .loop-test .left) (c .if2 .left)
 
 pub pointers-spec : {M : Type 1} → statement M
 pointers-spec =
@@ -74,9 +74,9 @@ pointers-spec =
     loop-holds
     sub-pointer-turn
     pointer-turn-requires
-    cast-list
-    mul-list
-    array-write-list
+    cast-at
+    mul-read
+    element-write-read
     add-count
     loop-less
     loop-again
