@@ -19,7 +19,7 @@ use Rattle.xcf_table.specs.declared.Row.{Row}
 use Rattle.xcf_grid.specs.Grid.{tileCount}
 use Rattle.xcf_range.specs.Range.{within}
 use Rattle.xcf_range.proofs.Bounds.{within-bounds}
-use Rattle.xcf_parse.specs.Hierarchy.{tiles}
+use Rattle.xcf_walk.specs.Pointers.{tiles}
 use Rattle.xcf_store.specs.Pointer.{pointerSize, pointerSizeOk, PointerSize}
 use Rattle.xcf_read.specs.Answer.{refusals}
 use Rattle.xcf_read_laws.proofs.Numbers.{numbered-tiles}

@@ -4,13 +4,12 @@ ghost use Prim.Native.Nat.{_≤_};
 ghost use Rattle.xcf_numbers.specs.Limit.{sideLimit, depthLimit};
 ghost use Rattle.xcf_store.specs.Pointer.{PointerSize};
 ghost use Rattle.xcf_walk.specs.Walk.{run};
-ghost use Rattle.xcf_parse.specs.Hierarchy.{tiles};
+ghost use Rattle.xcf_walk.specs.Pointers.{tiles};
 ghost use Rattle.xcf_decode.specs.Answer.{pointersRefusal, lentFits, drawableRefusal};
 use crate::DecodeAnswer;
 use crate::refusal;
 use xcf_numbers::refusal::ACCEPTED;
 use xcf_numbers::refusal::WRONG_BUFFER;
-use xcf_parse::hierarchy::tiles;
 use xcf_table::Row;
 use xcf_walk::cursor::start;
 use xcf_window::check::fits;
@@ -37,7 +36,7 @@ fn pointers_refusal(file: &[u8], row: Row, size: usize) -> DecodeAnswer
     requires { ⌜ PointerSize size ⌝ }
     ensures { λ r. ⌜ r ≡ pointersRefusal (run (tiles size (row .count) 0) (now (file .entry)) (row .pointers)) ⌝ }
 {
-    let end = tiles(start(row.pointers as usize), file, size, row.count);
+    let end = start(row.pointers as usize).tiles(file, size, row.count);
     if end.number != 0 {
         return refusal(end.number as u64, end.at as u64);
     }

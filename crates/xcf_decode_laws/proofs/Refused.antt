@@ -21,7 +21,7 @@ use Rattle.xcf_table.specs.declared.Row.{Row}
 use Rattle.xcf_table.specs.Table.{rowAt}
 use Rattle.xcf_grid.specs.Grid.{tileCount}
 use Rattle.xcf_laws.proofs.Cases.{by-cases}
-use Rattle.xcf_parse.specs.Hierarchy.{tiles}
+use Rattle.xcf_walk.specs.Pointers.{tiles}
 use Rattle.xcf_store.specs.Pointer.{pointerSizeOk}
 use Rattle.xcf_decode.specs.declared.DecodeAnswer.{DecodeAnswer}
 use Rattle.xcf_window.specs.Usable.{inRange, inFile, decodableRow, fits, rowRefusal}

@@ -15,7 +15,7 @@ use Rattle.xcf_walk.specs.Walk.{Outcome, got, refused, run}
 use Rattle.xcf_table.specs.declared.Row.{Row}
 use Rattle.xcf_table.specs.Table.{rowAt}
 use Rattle.xcf_laws.proofs.Cases.{by-cases}
-use Rattle.xcf_parse.specs.Hierarchy.{tiles}
+use Rattle.xcf_walk.specs.Pointers.{tiles}
 use Rattle.xcf_store.specs.Pointer.{pointerSize}
 use Rattle.xcf_grid.proofs.FewTiles.{few-tiles}
 use Rattle.xcf_decode.specs.declared.DecodeAnswer.{DecodeAnswer}

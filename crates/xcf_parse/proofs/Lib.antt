@@ -1,4 +1,3 @@
 pub mod Same
 pub mod Places
 pub mod Pointers
-pub mod Tiles

@@ -1,21 +1,19 @@
 -- The parts of a hierarchy: a word that agrees passes over bytes of the file (`advances-agrees`); a turn over the further
--- pointers leads where its pointer does (`rest-turn`) and moves on where it was no 0 (`rest-moves`), since such a pointer was read
--- (`read-is-live`).
+-- pointers leads where its pointer does (`rest-turn`) and moves on where it was no 0 (`rest-moves`).
 -- Assumes nothing.
 use Prim.Native.Nat.{ℕ, _≤_}
-use mathlib.Core.Path.{_≡_, refl}
 use mathlib.Core.List.{List}
-use mathlib.Core.Bool.{Bool, true, false, cond, not}
-use borrow.Author.Tests.{eqb-true, eqb-false, not-true}
+use mathlib.Core.Bool.{not}
+use borrow.Author.Tests.{eqb-false, not-true}
 use lib.Dec.{eqb}
 use Rattle.xcf_walk.specs.declared.cursor.Cursor.{Cursor}
-use Rattle.xcf_walk.specs.Walk.{Walk, here}
+use Rattle.xcf_walk.specs.Walk.{here}
 use Rattle.xcf_walk.specs.Fields.{number, word}
 use Rattle.xcf_walk.specs.Cursor.{Leads, Reads, turnOf}
 use Rattle.xcf_laws.proofs.Cases.{cond-not}
 use Rattle.xcf_walk.proofs.Straight.{Straight, straight-bind, straight-here, straight-word, straight-must}
 use Rattle.xcf_walk.proofs.Advances.{Advances, advances-next, advances-first, advances-number, advances-word}
-use Rattle.xcf_walk.proofs.Within.{moves-on}
+use Rattle.xcf_walk.proofs.Within.{read-is-live, moves-on}
 use Rattle.xcf_walk.proofs.Resume.{then, ends}
 use Rattle.xcf_walk.proofs.Loops.{Moves}
 use Rattle.xcf_parse.specs.Hierarchy.{agrees, restTurn}
@@ -27,14 +25,6 @@ straight-agrees v = straight-bind _ straight-here λ at. straight-bind _ straigh
 pub advances-agrees : (v : ℕ) → Advances (agrees v)
 unfolding agrees
 advances-agrees v = advances-next here _ (straight-agrees v) λ at r. advances-first word _ r advances-word
-
--- beside a refusal stands 0
-pub read-is-live : {c d : Cursor} {w : Walk ℕ} {f : List ℕ} {v : ℕ} → Reads c w f 0 d v → (v ≡ 0 → ⊥) → d .number ≡ 0
-read-is-live {d = d} {v = v} r h = go (eqb (d .number) 0) refl (r .absent)
-  where
-    go : (t : Bool) → eqb (d .number) 0 ≡ t → v ≡ cond t v 0 → d .number ≡ 0
-    go true e z = eqb-true _ _ e
-    go false e z = absurd (h z)
 
 module _ (size : ℕ) {c d : Cursor} {f : List ℕ} {v : ℕ} (r : Reads c (number size) f 0 d v) where
   pub rest-turn : Leads c (restTurn size tt) f d (turnOf (not (eqb v 0)) tt)

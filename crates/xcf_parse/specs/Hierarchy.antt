@@ -1,10 +1,11 @@
--- A drawable's hierarchy, its first level and the pointers of its tiles. A pointer has `size` bytes.
-use Prim.Native.Nat.{ℕ, zero, suc}
-use mathlib.Core.Bool.{cond, not, _&&_}
-use lib.Dec.{ltb, eqb}
+-- A drawable's hierarchy and its first level. A pointer has `size` bytes.
+use Prim.Native.Nat.{ℕ}
+use mathlib.Core.Bool.{cond, not}
+use lib.Dec.{eqb}
 use Rattle.xcf_numbers.specs.Refusal
-use Rattle.xcf_walk.specs.Walk.{Walk, done, here, fileLength, jump, must, Turn, more, last, loop, _>>=_, _>>_}
+use Rattle.xcf_walk.specs.Walk.{Walk, done, here, jump, must, Turn, more, last, loop, _>>=_, _>>_}
 use Rattle.xcf_walk.specs.Fields.{number, word}
+use Rattle.xcf_walk.specs.Pointers.{tiles}
 use Rattle.xcf_grid.specs.Grid.{tileCount}
 
 -- a word that has to be v
@@ -30,19 +31,6 @@ restTurn size u = do
 
 unfoldable pub rest : ℕ → Walk (Unit {0})
 rest size = loop (restTurn size) tt
-
--- the pointers of n tiles, each above the one before and below the file's length, then 0
-unfoldable pub tiles : ℕ → ℕ → ℕ → Walk (Unit {0})
-tiles size zero before = do
-  at ← here
-  p ← number size
-  must (eqb p 0) Refusal.badTilePointer at
-tiles size (suc n) before = do
-  at ← here
-  end ← fileLength
-  p ← number size
-  must (ltb before p && ltb p end) Refusal.badTilePointer at
-  tiles size n p
 
 -- the place of the first tile pointer
 unfoldable pub hierarchy : ℕ → ℕ → ℕ → ℕ → Walk ℕ

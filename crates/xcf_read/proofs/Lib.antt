@@ -1,3 +1,2 @@
-pub mod PointersLoop
 pub mod DrawablesLoop
 pub mod Decided

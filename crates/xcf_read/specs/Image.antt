@@ -1,32 +1,14 @@
 -- The image, and all that it points to.
-use Prim.Native.Nat.{ℕ, zero, suc}
+use Prim.Native.Nat.{ℕ}
 use mathlib.Core.List.{List, [], _∷_}
-use mathlib.Core.Bool.{cond}
-use lib.Dec.{eqb}
 use Rattle.xcf_numbers.specs.Limit.{layerLimit, channelLimit}
-use Rattle.xcf_numbers.specs.Refusal
-use Rattle.xcf_walk.specs.Walk.{Walk, done, here, jump, must, PassedOver, _>>=_, _>>_}
-use Rattle.xcf_walk.specs.Fields.{number}
+use Rattle.xcf_walk.specs.Walk.{Walk, done, jump, PassedOver, _>>=_, _>>_}
+use Rattle.xcf_walk.specs.Pointers.{pointers}
 use Rattle.xcf_table.specs.Table.{Rows, noRows}
 use Rattle.xcf_table.specs.declared.canvas.Canvas.{Canvas}
 use Rattle.xcf_parse.specs.declared.image.Head.{Head}
 use Rattle.xcf_read.specs.Drawable.{layerRows, canvasChannelRows}
 use Rattle.xcf_parse.specs.Image.{head}
-
--- pointers closed by 0, at most so many; one more is refused at its place
-unfoldable pub pointers : ℕ → ℕ → Walk (List ℕ)
-pointers size zero = do
-  at ← here
-  p ← number size
-  must (eqb p 0) Refusal.tooMany at
-  done []
-pointers size (suc most) = do
-  p ← number size
-  cond (eqb p 0)
-      (done [])
-      (do
-        ps ← pointers size most
-        done (p ∷ ps))
 
 -- the drawables at these places, each read by the walk one, behind the rows so far
 unfoldable pub drawables : (Rows → Walk Rows) → List ℕ → Rows → Walk Rows

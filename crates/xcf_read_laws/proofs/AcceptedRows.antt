@@ -20,7 +20,8 @@ use Rattle.xcf_grid.specs.Grid.{tileCount}
 use Rattle.xcf_table.specs.declared.canvas.Canvas.{Canvas}
 use Rattle.xcf_parse.specs.declared.drawable.Layer.{Layer}
 use Rattle.xcf_parse.specs.declared.drawable.Owner.{Owner}
-use Rattle.xcf_parse.specs.Hierarchy.{agrees, pointer, rest, tiles, hierarchy}
+use Rattle.xcf_parse.specs.Hierarchy.{agrees, pointer, rest, hierarchy}
+use Rattle.xcf_walk.specs.Pointers.{tiles}
 use Rattle.xcf_row.specs.Row.{channelRow, maskOwner, layerRow, channelOwner}
 use Rattle.xcf_read.specs.Drawable.{channelRows, maskRows, layerRows, canvasChannelRows}
 use Rattle.xcf_read.specs.Image.{drawables, Image, image, structureByte}

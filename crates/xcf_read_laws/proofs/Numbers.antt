@@ -12,6 +12,7 @@ use Rattle.xcf_walk.specs.Walk.{Walk, refused, run}
 use Rattle.xcf_walk.specs.Fields.{number, word, string}
 use Rattle.xcf_property.specs.declared.Properties.{Properties}
 use Rattle.xcf_walk.specs.Property.{payload, colourMap, content, property, propertyTurn, properties}
+use Rattle.xcf_walk.specs.Pointers.{pointers, tiles}
 use Rattle.xcf_property.specs.Property.{isColourMap}
 use Rattle.xcf_walk.proofs.Advances.{advances-first, advances-number, advances-property-turn}
 use Rattle.xcf_walk.proofs.Straight.{straight-done, straight-bind, straight-number}
@@ -21,11 +22,11 @@ use Rattle.xcf_table.specs.declared.canvas.Canvas.{Canvas}
 use Rattle.xcf_parse.specs.declared.drawable.Layer.{Layer}
 use Rattle.xcf_parse.specs.declared.drawable.Owner.{Owner}
 use Rattle.xcf_parse.specs.Header.{header}
-use Rattle.xcf_parse.specs.Hierarchy.{agrees, pointer, restTurn, rest, tiles, hierarchy}
+use Rattle.xcf_parse.specs.Hierarchy.{agrees, pointer, restTurn, rest, hierarchy}
 use Rattle.xcf_parse.specs.Drawable.{side, sideLike, layerType, fields, layer, channel}
 use Rattle.xcf_read.specs.Drawable.{channelRows, maskRows, layerRows, canvasChannelRows}
 use Rattle.xcf_parse.specs.Image.{baseType, head}
-use Rattle.xcf_read.specs.Image.{pointers, drawables, image}
+use Rattle.xcf_read.specs.Image.{drawables, image}
 use Rattle.xcf_read.specs.Answer.{refusals}
 
 abbrev pub Numbered : {A : Type 0} → Walk A → Type 0

@@ -27,7 +27,7 @@ use Rattle.xcf_parse.specs.Header.{header}
 use Rattle.xcf_table.specs.Canvas.{sideOk, typeOk, depths, depthOf}
 use Rattle.xcf_parse.specs.Drawable.{side, sideLike, layerType, fields, layer, channel}
 use Rattle.xcf_parse.specs.Image.{baseType, head}
-use Rattle.xcf_read.specs.Image.{pointers}
+use Rattle.xcf_walk.specs.Pointers.{pointers}
 use Rattle.xcf_walk_laws.proofs.Ensures.{Ensures, ensures-always, ensures-done, ensures-must, ensures-weaken, ensures-bind, ensures-next, ensures-cond, InTurn, ensures-loop}
 
 abbrev pub Side : ℕ → Type 0

@@ -15,7 +15,8 @@ use Rattle.xcf_walk.specs.Walk.{turns, loop}
 use Rattle.xcf_walk.specs.Fields.{word}
 use Rattle.xcf_table.specs.declared.Row.{Row}
 use Rattle.xcf_grid.specs.Grid.{tileCount}
-use Rattle.xcf_parse.specs.Hierarchy.{agrees, pointer, restTurn, rest, tiles, hierarchy}
+use Rattle.xcf_parse.specs.Hierarchy.{agrees, pointer, restTurn, rest, hierarchy}
+use Rattle.xcf_walk.specs.Pointers.{tiles}
 use Rattle.xcf_store.specs.Word.{words}
 use Rattle.xcf_structure.specs.Structure.{hierarchyBytes, levelBytes}
 use Rattle.xcf_round_trip.proofs.Parts.{Stands, Gives, Rises}

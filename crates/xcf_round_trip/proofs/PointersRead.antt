@@ -11,7 +11,7 @@ use lib.Dec.{eqb}
 use lib.ListN.{length, length-append}
 use Rattle.xcf_numbers.specs.Refusal
 use Rattle.xcf_store.specs.Pointer.{pointerSize}
-use Rattle.xcf_read.specs.Image.{pointers}
+use Rattle.xcf_walk.specs.Pointers.{pointers}
 use Rattle.xcf_store.specs.Word.{wordBytes, words, when}
 use Rattle.xcf_drawable.specs.Drawable.{Drawable, drawableSize, drawableBytes}
 use Rattle.xcf_body.specs.Rows.{drawablesBytes, placesFrom}

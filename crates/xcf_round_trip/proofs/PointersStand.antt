@@ -7,7 +7,7 @@ use mathlib.Core.List.{List, [], _∷_, _++_}
 use native.Mathlib.Omega.{arith}
 use lib.ListN.{length}
 use Rattle.xcf_numbers.specs.Limit.{fileLimit}
-use Rattle.xcf_parse.specs.Hierarchy.{tiles}
+use Rattle.xcf_walk.specs.Pointers.{tiles}
 use Rattle.xcf_store.specs.Pointer.{pointerSize}
 use Rattle.xcf_window.specs.Window.{pointerAt}
 use Rattle.xcf_store.specs.Word.{words}

@@ -17,6 +17,7 @@ use Rattle.xcf_store.specs.Word.{bigEndian, wordOf}
 use Rattle.xcf_walk.specs.Fields.{number, word, string}
 use Rattle.xcf_property.specs.Property.{lengthOk, contentOf, isColourMap, isFloating, lacksMap, allowed, activeType, put}
 use Rattle.xcf_walk.specs.Property.{payload, content, property, propertyTurn, properties}
+use Rattle.xcf_walk.specs.Pointers.{pointers, tiles}
 use Rattle.xcf_walk_laws.proofs.Passes.{passes, not-passed}
 use Rattle.xcf_table.specs.Table.{addRow, rowAt, tableOf}
 use Rattle.xcf_operation.specs.Operation.{headOf, headAt, operationOf, operationAt}
@@ -24,14 +25,14 @@ use Rattle.xcf_stream.specs.Stream.{streamFrom, streamWithin, streamAt}
 use Rattle.xcf_stream.specs.Streams.{streamsAt}
 use Rattle.xcf_tile.specs.Tile.{pixel, interleave, encodedTile, tileIn, tileOf}
 use Rattle.xcf_parse.specs.Header.{same, versionIn, header}
-use Rattle.xcf_parse.specs.Hierarchy.{agrees, pointer, restTurn, rest, tiles, hierarchy}
+use Rattle.xcf_parse.specs.Hierarchy.{agrees, pointer, restTurn, rest, hierarchy}
 use Rattle.xcf_store.specs.Pointer.{pointerSize}
 use Rattle.xcf_table.specs.Canvas.{sideOk}
 use Rattle.xcf_parse.specs.Drawable.{side, sideLike, fields, channel}
 use Rattle.xcf_row.specs.Row.{flag, channelFlags, channelRow, channelOwner}
 use Rattle.xcf_read.specs.Drawable.{channelRows, canvasChannelRows}
 use Rattle.xcf_parse.specs.Image.{baseOk, baseType, head}
-use Rattle.xcf_read.specs.Image.{pointers, drawables, canvasOf, image, structureByte}
+use Rattle.xcf_read.specs.Image.{drawables, canvasOf, image, structureByte}
 use Rattle.xcf_read.specs.Answer.{Reading, reading, rowOf}
 use Rattle.xcf_window.specs.Window.{pointerAt, windowEnd, windowLength, window, InWindow, tile}
 use Rattle.xcf_grid.specs.Pixels.{tabulate, pixelsOf}

@@ -7,16 +7,17 @@ use Rattle.xcf_store.specs.Word.{bigEndian, wordOf}
 use Rattle.xcf_walk.specs.Fields.{number, word, string}
 use Rattle.xcf_property.specs.Property.{lengthOk, contentOf, isColourMap, isFloating, lacksMap, allowed, activeType, put}
 use Rattle.xcf_walk.specs.Property.{payload, content, property, propertyTurn, properties}
+use Rattle.xcf_walk.specs.Pointers.{pointers, tiles}
 use Rattle.xcf_table.specs.Table.{addRow, tableOf}
 use Rattle.xcf_parse.specs.Header.{same, versionIn, header}
-use Rattle.xcf_parse.specs.Hierarchy.{agrees, pointer, restTurn, rest, tiles, hierarchy}
+use Rattle.xcf_parse.specs.Hierarchy.{agrees, pointer, restTurn, rest, hierarchy}
 use Rattle.xcf_store.specs.Pointer.{pointerSize}
 use Rattle.xcf_table.specs.Canvas.{sideOk}
 use Rattle.xcf_parse.specs.Drawable.{side, sideLike, fields, channel}
 use Rattle.xcf_row.specs.Row.{flag, channelFlags, channelRow, channelOwner}
 use Rattle.xcf_read.specs.Drawable.{channelRows, canvasChannelRows}
 use Rattle.xcf_parse.specs.Image.{baseOk, baseType, head}
-use Rattle.xcf_read.specs.Image.{pointers, drawables, canvasOf, image}
+use Rattle.xcf_read.specs.Image.{drawables, canvasOf, image}
 use Rattle.xcf_read_laws.proofs.Accepted.{read-walked}
 use Rattle.xcf_theorems.specs.ExampleFile.{exampleFile, exampleRow}
 use Rattle.xcf_theorems.specs.Statements.{ExampleFileIsRead}

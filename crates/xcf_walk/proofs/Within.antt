@@ -38,6 +38,14 @@ module _ {A : Type 0} {c d : Cursor} {w : Walk A} {f : List ℕ} {a : A} (l : Le
   pub live-run : got a (d .at) ≡ run w f (c .at)
   live-run = taken .1
 
+-- a value that is not the one beside a refusal was read
+pub read-is-live : {A : Type 0} {c d : Cursor} {w : Walk A} {f : List ℕ} {none v : A} → Reads c w f none d v → (v ≡ none → ⊥) → d .number ≡ 0
+read-is-live {d = d} {none = none} {v = v} r h = go (eqb (d .number) 0) refl (r .absent)
+  where
+    go : (t : Bool) → eqb (d .number) 0 ≡ t → v ≡ cond t v none → d .number ≡ 0
+    go true e z = eqb-true _ _ e
+    go false e z = absurd (h z)
+
 -- so it moved on, where the walk passes over a byte
 pub moves-on : {A : Type 0} {c d : Cursor} {w : Walk A} {f : List ℕ} {a : A} → Advances w → Leads c w f d a → d .number ≡ 0 → (c .at < d .at) × (d .at ≤ length f)
 moves-on {c = c} {d = d} {f = f} {a = a} v l h = v .passes f (c .at) a (d .at) (live-run l h)

@@ -18,7 +18,7 @@ use Rattle.xcf_walk.proofs.Walks.{parted, run-here, run-length, got-must}
 use Rattle.xcf_walk.proofs.Within.{got-number}
 use Rattle.xcf_table.specs.declared.Row.{Row}
 use Rattle.xcf_laws.proofs.Cases.{by-cases}
-use Rattle.xcf_parse.specs.Hierarchy.{tiles}
+use Rattle.xcf_walk.specs.Pointers.{tiles}
 use Rattle.xcf_window.specs.Window.{pointerAt, windowEnd}
 
 -- a pointer passed over, with n more behind it

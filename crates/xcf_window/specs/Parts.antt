@@ -7,7 +7,7 @@ use Rattle.xcf_walk.specs.Walk.{got, run}
 use Rattle.xcf_table.specs.declared.Row.{Row}
 use Rattle.xcf_grid.specs.Drawn.{InRange}
 use Rattle.xcf_tile.specs.Tile.{Tile}
-use Rattle.xcf_parse.specs.Hierarchy.{tiles}
+use Rattle.xcf_walk.specs.Pointers.{tiles}
 use Rattle.xcf_store.specs.Pointer.{PointerSize}
 
 -- a row in range, whose tile pointers, of `size` bytes, are right in the file f

@@ -1,8 +1,8 @@
 -- `tiles` meets its contract: the number behind the pointers that are right decides (`left-closed`).
 use borrow.Author.Needs.{needs}
-use Rattle.xcf_parse.proofs.Tiles.{left-closed}
-use Rattle.xcf_parse.proofs.hierarchy.tiles.Statement.{statement}
-use Rattle.xcf_parse.proofs.hierarchy.tiles.Tie as tie
+use Rattle.xcf_walk.proofs.Tiles.{left-closed}
+use Rattle.xcf_walk.proofs.cursor.Cursor.tiles.Statement.{statement}
+use Rattle.xcf_walk.proofs.cursor.Cursor.tiles.Tie as tie
 
 right-tiles-requires : tie.Need-right-tiles-requires
 right-tiles-requires c κs = search needs

@@ -1,7 +1,7 @@
 -- `closes` meets its contract, by whether all pointers are right; the test of the word is the definition's.
 use borrow.Author.Tests.{eq-eqb, ne-eqb}
-use Rattle.xcf_parse.proofs.hierarchy.closes.Statement.{statement}
-use Rattle.xcf_parse.proofs.hierarchy.closes.Tie as tie
+use Rattle.xcf_walk.proofs.pointers.closes.Statement.{statement}
+use Rattle.xcf_walk.proofs.pointers.closes.Tie as tie
 
 returns : tie.Need-returns
 returns c = rw (eq-eqb _ _ (c .if1 .taken))

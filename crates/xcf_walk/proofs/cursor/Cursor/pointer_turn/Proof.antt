@@ -1,9 +1,9 @@
 -- `pointer_turn` meets its contract, by its number: a 0, as also stands beside a refusal, ends the walk (`turn-closed`);
 -- a pointer is read, or refused where none is left (`turn-read`).
 use borrow.Author.Needs.{needs}
-use Rattle.xcf_read.proofs.PointersLoop.{turn-closed, turn-read}
-use Rattle.xcf_read.proofs.image.pointer_turn.Statement.{statement}
-use Rattle.xcf_read.proofs.image.pointer_turn.Tie as tie
+use Rattle.xcf_walk.proofs.PointersLoop.{turn-closed, turn-read}
+use Rattle.xcf_walk.proofs.cursor.Cursor.pointer_turn.Statement.{statement}
+use Rattle.xcf_walk.proofs.cursor.Cursor.pointer_turn.Tie as tie
 
 pointer-requires : tie.Need-pointer-requires
 pointer-requires c κs = search needs

@@ -12,19 +12,19 @@ use borrow.Author.Tests.{le-leb, leb-true, eqb-true, eqb-false}
 use lib.Dec.{leb, ltb, eqb}
 use lib.ListN.{length}
 use Rattle.xcf_numbers.specs.Refusal
 use Rattle.xcf_walk.specs.declared.cursor.Cursor.{Cursor}
 use Rattle.xcf_store.specs.declared.rising.Rising.{Rising}
 use Rattle.xcf_walk.specs.Walk.{Walk, must}
 use Rattle.xcf_walk.specs.Fields.{number}
 use Rattle.xcf_store.specs.Pointer.{numberAt}
 use Rattle.xcf_store.specs.Rising.{rises, rising}
-use Rattle.xcf_walk.specs.Cursor.{Leads, outcome, resume, checked, skipped}
-use Rattle.xcf_walk.proofs.Resume.{then, then-here, then-length, ends, by-check, by-skip, is-refused, live-same}
+use Rattle.xcf_walk.specs.Cursor.{Leads, outcome, resume, checked, jumped, skipped}
+use Rattle.xcf_walk.proofs.Resume.{then, then-here, then-length, ends, by-check, by-skip, is-live, is-refused, live-same}
 use Rattle.xcf_walk.proofs.Within.{live-before, number-within, check-keeps}
 use Rattle.xcf_store.proofs.Risen.{Risen, risen}
 use Rattle.xcf_laws.proofs.Cases.{by-cases}
-use Rattle.xcf_parse.specs.Hierarchy.{tiles}
-use Rattle.xcf_parse.specs.Parts.{TilesLeft}
+use Rattle.xcf_walk.specs.Pointers.{tiles}
+use Rattle.xcf_walk.specs.Parts.{TilesLeft}
 
 -- a refusal stays what it is
 stays : {A : Type 0} {c : Cursor} {w : Walk A} {f : List ℕ} {a : A} → (c .number ≡ 0 → ⊥) → Leads c w f c a
@@ -75,8 +75,10 @@ pub none-left : {size : ℕ} {f : List ℕ} {c : Cursor} {n : ℕ} → (c .numbe
 none-left h = record { few = omega arith; whole = λ l. rw sub-zero at l; stops = λ z. absurd (h z) }
 
 pub rising-left : (size : ℕ) (f : List ℕ) (c : Cursor) (n : ℕ) {r : Rising} {next : Cursor} → c .number ≡ 0 → r ≡ rising size f (c .at) n 0
-    → next ≡ at-place (c .at + size * r .count) → TilesLeft size f c n next (r .last) (r .count)
-rising-left size f c n {r} {next} live e there =
+    → next ≡ jumped c (c .at + size * r .count) → TilesLeft size f c n next (r .last) (r .count)
+unfolding jumped
+rising-left size f c n {r} {next} live e jumps =
+    let there : next ≡ at-place (c .at + size * r .count) = jumps ∙ is-live c _ _ live in
     let up : Risen size f (c .at) n r = rw e (risen size f (c .at) n 0) in
     let here : c ≡ at-place (c .at) = ap (λ k. record { at = c .at; number = k }) live in
     record {
