@@ -59,7 +59,7 @@ extern "C" {
 /* mark        0: the tile is good. 20: its window ends before it does. 21: an operation gives more bytes than its stream
  *             still takes
  * consumed    how many bytes of the window a good tile took. For a marked one: where in the window the failing operation
- *             begins, which is the window's end if its opcode is missing; 0 if the tile is plain
+ *             begins, which is where the cut window ends if its opcode is missing; 0 if the tile is plain
  * operations  how many were carried out in full; 0 for a plain tile */
 typedef struct {
     uint64_t number;

@@ -16,7 +16,9 @@ const DOCUMENTS: [&str; 7] = [
 ];
 
 /// The repository's parts whose comments may cite the rules.
-const PARTS: [&str; 6] = ["bench", "compare", "crates", "docs", "include", "tool"];
+const PARTS: [&str; 7] = [
+    "bench", "compare", "crates", "docs", "include", "plain", "tool",
+];
 
 fn root() -> PathBuf {
     Path::new(env!("CARGO_MANIFEST_DIR")).join("..")
@@ -54,7 +56,7 @@ fn is_path(quoted: &str) -> bool {
         .chars()
         .all(|c| c.is_alphanumeric() || "/._-".contains(c));
     let starts = [
-        "xcf_", "bench/", "compare/", "crates/", "docs/", "include/", "tool/", ".ci/",
+        "xcf_", "bench/", "compare/", "crates/", "docs/", "include/", "plain/", "tool/", ".ci/",
     ];
     let is_whole = is_plain && quoted.contains('/') && !quoted.contains("NAME");
     is_whole && starts.iter().any(|start| quoted.starts_with(start))
@@ -123,4 +125,19 @@ fn cited_sections_exist() {
     }
     assert!(found >= 20, "only {found}");
     assert!(unknown.is_empty(), "{unknown:#?}");
+}
+
+/// A document is cited by its name here, none by a number that it has elsewhere.
+#[test]
+fn no_document_is_cited_by_number() {
+    let numbered = ["document", "demand"].map(|word| format!("{word} "));
+    let is_cited = |text: &str, word: &str| {
+        let mut behind = text.split(word).skip(1);
+        behind.any(|rest| rest.starts_with(|c: char| c.is_ascii_digit()))
+    };
+    let texts = PARTS.iter().flat_map(|part| texts(&root().join(part)));
+    for text in texts.chain([read("README.md"), read("CHANGELOG.md")]) {
+        let text = text.to_lowercase();
+        assert!(!numbered.iter().any(|word| is_cited(&text, word)));
+    }
 }

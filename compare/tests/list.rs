@@ -88,16 +88,16 @@ fn damaged_files_agree() {
 /// The call's own refusal, of any file: every other number is 0, and table and
 /// text stay as lent.
 fn assert_not_listed(file: &[u8], table: usize, text: usize) {
-    let (lent_table, lent_text) = (vec![7; table], vec![0xA5; text]);
-    let (mut table, mut text) = (Guarded::new(&lent_table), Guarded::new(&lent_text));
-    let answer = library::list(file, table.lent(), text.lent());
     let refusal = ListAnswer {
         number: WRONG_LENGTH,
         ..Default::default()
     };
-    assert_eq!(answer, refusal);
-    assert_eq!(table.difference(&Guarded::new(&lent_table)), None);
-    assert_eq!(text.difference(&Guarded::new(&lent_text)), None);
+    for list in [list_into, library::list] {
+        let (mut lent_table, mut lent_text) = (vec![7; table], vec![0xA5; text]);
+        assert_eq!(list(file, &mut lent_table, &mut lent_text), refusal);
+        assert!(lent_table.iter().all(|number| *number == 7));
+        assert!(lent_text.iter().all(|byte| *byte == 0xA5));
+    }
 }
 
 /// A text that is too short, or a table of another length.

@@ -34,26 +34,38 @@ fn rows(last_name: u32) -> [Row; 5] {
     rows
 }
 
-/// A file of one byte above the limit is refused, though there is room; one of
-/// the limit is written. The answers are written out, so that the reference is
-/// not run: the pixels and the one output take about 2.2 GB of memory, and the
-/// plain writer as much as the output again.
+/// A sum of the bytes and of where they stand.
+fn checksum(bytes: &[u8]) -> u64 {
+    let words = bytes
+        .chunks_exact(8)
+        .map(|word| u64::from_le_bytes(word.try_into().expect("eight bytes")));
+    words.fold(bytes.len() as u64, |sum, word| {
+        sum.rotate_left(5).wrapping_mul(0x9E37_79B9_7F4A_7C15) ^ word
+    })
+}
+
+/// A file of one byte above the limit is refused, though there is room, and the
+/// output stays as lent; one of the limit is written, the same by both. The
+/// answers are written out, so that the reference is not run: the pixels and the
+/// one output take about 2.2 GB of memory, and the plain writer as much as the
+/// output again.
 #[test]
 fn file_limit() {
     let length = |name: u32| 51 + 5 * 120 + 2 * 1_025 + name as usize + 1 + TILES * TILE;
     assert_eq!(length(434), FILE_LIMIT);
     let pixels = [0, 1].repeat(TILES * 2_048);
     let mut output = vec![FILLING; FILE_LIMIT + 1];
-    for by in [LIBRARY, PLAIN] {
-        output[0] = FILLING;
-        let mut call = |name: u32| {
+    let files = [LIBRARY, PLAIN].map(|by| {
+        output.fill(FILLING);
+        let write = |name: u32, output: &mut [u8]| {
             let table = table_of(&rows(name));
-            let answer = (by.write)(1, 1, 1, &table, &[b'n'; 1_024], &pixels, &mut output);
-            (answer, output[0], output[FILE_LIMIT])
+            (by.write)(1, 1, 1, &table, &[b'n'; 1_024], &pixels, output)
         };
-        let refused = WriteAnswer::refused(18);
-        assert_eq!(call(435), (refused, FILLING, FILLING));
-        let written = WriteAnswer::written(FILE_LIMIT);
-        assert_eq!(call(434), (written, b'g', FILLING));
-    }
+        assert_eq!(write(435, &mut output), WriteAnswer::refused(18));
+        assert!(output.iter().all(|byte| *byte == FILLING), "{}", by.name);
+        assert_eq!(write(434, &mut output), WriteAnswer::written(FILE_LIMIT));
+        assert_eq!(output[FILE_LIMIT], FILLING);
+        checksum(&output[..FILE_LIMIT])
+    });
+    assert_eq!(files[0], files[1]);
 }

@@ -13,7 +13,7 @@ use lib.ListN.{length}
 use Rattle.xcf_numbers.specs.Limit.{fileLimit, sideLimit, depthLimit, tableSize}
 use Rattle.xcf_numbers.specs.Kind
 use Rattle.xcf_numbers.specs.Refusal
-use Rattle.xcf_numbers.specs.Refusal.{listed}
+use Rattle.xcf_numbers.specs.Listed.{listed}
 use Rattle.xcf_walk.specs.Walk.{Outcome, got, refused, run}
 use Rattle.xcf_table.specs.declared.Row.{Row}
 use Rattle.xcf_grid.specs.Grid.{tileCount}

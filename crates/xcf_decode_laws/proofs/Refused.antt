@@ -12,7 +12,7 @@ use lib.Dec.{leb, eqb}
 use lib.ListN.{length}
 use Rattle.xcf_numbers.specs.Limit.{fileLimit, tableSize}
 use Rattle.xcf_numbers.specs.Refusal
-use Rattle.xcf_numbers.specs.Refusal.{listed}
+use Rattle.xcf_numbers.specs.Listed.{listed}
 use Rattle.xcf_walk.specs.Walk.{Outcome, got, refused, Walk, run, bytes, here, fileLength, must, _>>=_}
 use Rattle.xcf_store.specs.Word.{part, bigEndian}
 use Rattle.xcf_walk.specs.Fields.{number}

@@ -7,7 +7,7 @@ use mathlib.Core.List.{List}
 use mathlib.Core.Bool.{true}
 use lib.Dec.{ltb, eqb}
 use lib.ListN.{length}
-use Rattle.xcf_numbers.specs.Refusal.{listed}
+use Rattle.xcf_numbers.specs.Listed.{listed}
 use Rattle.xcf_laws.proofs.Cases.{by-cases}
 use Rattle.xcf_tile.specs.Answer.{usableTile}
 use Rattle.xcf_encode.specs.Tile.{encodeTile}

@@ -49,8 +49,8 @@ pub record RowIsolated (size : ℕ) (g : List ℕ) (r : Row) (compression : ℕ)
       → GoodWhenValid (window size g r t) (tileWidth (r .width) t) (tileHeight (r .width) (r .height) t) (r .depth) compression
       (getD (e .marks) t 0) (shown (r .width) (r .height) (r .depth) t (e .pixels))
 
--- g is read as f was, and its rows are isolated: the decoder is lent each file, what the reader gave for it, and buffers of the
--- right length, whatever these held before
+-- g is read as f was, and its rows are isolated: the decoder is lent a file, what the reader gave for that file, and buffers that
+-- fit, with any content
 pub record Isolated (f g lent : List ℕ) (Chosen : ℕ → ℕ → Type 0) : Type 0 where
   pub read : reading g lent ≡ reading f lent
   pub rows : (k : ℕ) → k < reading f lent .answer .rows → (pixels marks pixels' marks' : List ℕ)

@@ -3,10 +3,10 @@
 use Prim.Native.Nat.{ℕ, zero, suc, _+_}
 use mathlib.Core.Path.{_≡_}
 use mathlib.Core.List.{List, [], _∷_, _++_}
-use mathlib.Core.Bool.{Bool, cond, _&&_}
+use mathlib.Core.Bool.{Bool, true, false, cond, _&&_}
 use lib.ListN.{length, drop}
 use lib.Dec.{leb, eqb}
-use Rattle.xcf_numbers.specs.Limit.{tableSize}
+use Rattle.xcf_numbers.specs.Limit.{fileLimit, tableSize}
 use Rattle.xcf_numbers.specs.Refusal
 use Rattle.xcf_store.specs.Pointer.{pointerSize}
 use Rattle.xcf_read.specs.Answer.{refusal, Reading, reading}
@@ -93,3 +93,15 @@ pub record Lists (limit : ℕ) (file oldTable oldText : List ℕ) (r : ListAnswe
 abbrev pub Prints : List ℕ → List ℕ → List ℕ → List ℕ → List ℕ → Type 0
 Prints file oldTable oldText newTable newText =
     Lists listLimit file oldTable oldText (listing listLimit file oldTable oldText .answer) newTable newText
+
+-- what the exported call says of a file beside what the reader says: with a table and a text that fit, and with others
+pub record ListsAsTheReader (file table text : List ℕ) : Type 0 where
+  pub verdict : lentFits (length table) (length text) ≡ true →
+      let a = listing fileLimit file table text .answer in
+      let r = reading file table .answer in
+      (a .number ≡ 0) × (a .refused ≡ r .number) × (a .at ≡ r .place)
+  pub table : lentFits (length table) (length text) ≡ true → listing fileLimit file table text .table ≡ reading file table .table
+  pub text : lentFits (length table) (length text) ≡ true →
+      let lines = linesOf file (reading file table) in listing fileLimit file table text .text ≡ lines ++ drop (length lines) text
+  pub unfit : lentFits (length table) (length text) ≡ false
+      → listing fileLimit file table text ≡ record { answer = notListed; table = table; text = text }

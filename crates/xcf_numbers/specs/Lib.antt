@@ -1,4 +1,5 @@
 pub mod Refusal
+pub mod Listed
 pub mod Mark
 pub mod Kind
 pub mod Base

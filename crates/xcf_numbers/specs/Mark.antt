@@ -4,7 +4,7 @@ use Prim.Native.Nat.{ℕ}
 abbrev pub good : ℕ
 good = 0
 
--- the window ends too soon
+-- the window ends before the tile does
 abbrev pub short : ℕ
 short = 20
 

@@ -1,8 +1,5 @@
 -- The numbers of refusals (RULES, "Numbers").
 use Prim.Native.Nat.{ℕ}
-use mathlib.Core.List.{List, [], _∷_}
-use mathlib.Core.Bool.{Bool, false, _||_}
-use lib.Dec.{eqb}
 
 abbrev pub accepted : ℕ
 accepted = 0
@@ -19,7 +16,7 @@ notXcf = 2
 abbrev pub badVersion : ℕ
 badVersion = 3
 
--- a side is 0 or above the limit
+-- a side is outside its range
 abbrev pub badSide : ℕ
 badSide = 4
 
@@ -27,11 +24,11 @@ badSide = 4
 abbrev pub badBase : ℕ
 badBase = 5
 
--- a known property has a wrong length
+-- the length of a property does not fit its type
 abbrev pub badLength : ℕ
 badLength = 6
 
--- a property's content is not allowed
+-- a payload holds a value that is not allowed, or an indexed image has no colour map
 abbrev pub badContent : ℕ
 badContent = 7
 
@@ -39,7 +36,7 @@ badContent = 7
 abbrev pub tooMany : ℕ
 tooMany = 8
 
--- a hierarchy or first level pointer is 0
+-- the pointer to a hierarchy, or to its first level, is 0
 abbrev pub noPointer : ℕ
 noPointer = 9
 
@@ -47,19 +44,19 @@ noPointer = 9
 abbrev pub disagrees : ℕ
 disagrees = 10
 
--- a lent buffer has the wrong length
+-- a buffer is lent with a length that does not fit
 abbrev pub wrongBuffer : ℕ
 wrongBuffer = 11
 
--- a string does not end in a zero byte
+-- the last of a string's bytes is not zero
 abbrev pub unendedString : ℕ
 unendedString = 12
 
--- a bad tile pointer or closing word
+-- a tile pointer, or the word that closes them, breaks its rule
 abbrev pub badTilePointer : ℕ
 badTilePointer = 13
 
--- a row or tile given to the decoder is unusable
+-- a row, tile or compression that cannot be decoded or encoded
 abbrev pub unusable : ℕ
 unusable = 14
 
@@ -67,7 +64,7 @@ unusable = 14
 abbrev pub tooLong : ℕ
 tooLong = 15
 
--- a layer is a floating selection
+-- a layer has the property of a floating selection
 abbrev pub floating : ℕ
 floating = 16
 
@@ -78,8 +75,3 @@ badRow = 17
 -- what is to be written exceeds the lent output, or a file the limit
 abbrev pub noRoom : ℕ
 noRoom = 18
-
--- whether a number is one of a list
-unfoldable pub listed : List ℕ → ℕ → Bool
-listed [] n = false
-listed (m ∷ ms) n = eqb n m || listed ms n

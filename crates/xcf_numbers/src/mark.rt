@@ -1,7 +1,7 @@
 // The marks of tiles.
 pub const GOOD: u64 = 0;
 
-// The window ends too soon.
+// The window ends before the tile does.
 pub const SHORT: u64 = 20;
 
 // An operation gives more than its stream still takes.

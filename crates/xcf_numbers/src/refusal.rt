@@ -11,43 +11,43 @@ pub const NOT_XCF: u32 = 2;
 // The version's tag is not known.
 pub const BAD_VERSION: u32 = 3;
 
-// A side is 0 or above the limit.
+// A side is outside its range.
 pub const BAD_SIDE: u32 = 4;
 
 // A base type that the version does not have, or that is not written.
 pub const BAD_BASE: u32 = 5;
 
-// A known property has a wrong length.
+// The length of a property does not fit its type.
 pub const BAD_LENGTH: u32 = 6;
 
-// A property's content is not allowed.
+// A payload holds a value that is not allowed, or an indexed image has no colour map.
 pub const BAD_CONTENT: u32 = 7;
 
 // A layer or channel over the limit.
 pub const TOO_MANY: u32 = 8;
 
-// A hierarchy or first level pointer is 0.
+// The pointer to a hierarchy, or to its first level, is 0.
 pub const NO_POINTER: u32 = 9;
 
 // A type, side or depth is not what its owner says.
 pub const DISAGREES: u32 = 10;
 
-// A lent buffer has the wrong length.
+// A buffer is lent with a length that does not fit.
 pub const WRONG_BUFFER: u64 = 11;
 
-// A string does not end in a zero byte.
+// The last of a string's bytes is not zero.
 pub const UNENDED_STRING: u32 = 12;
 
-// A bad tile pointer or closing word.
+// A tile pointer, or the word that closes them, breaks its rule.
 pub const BAD_TILE_POINTER: u32 = 13;
 
-// A row or tile given to the decoder is unusable.
+// A row, tile or compression that cannot be decoded or encoded.
 pub const UNUSABLE: u64 = 14;
 
 // The file is too long.
 pub const TOO_LONG: u64 = 15;
 
-// A layer is a floating selection.
+// A layer has the property of a floating selection.
 pub const FLOATING: u32 = 16;
 
 // A row that cannot be written.

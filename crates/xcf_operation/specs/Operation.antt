@@ -28,8 +28,8 @@ headOf ws at n =
 unfoldable pub headAt : List ℕ → ℕ → Head
 headAt ws at = cond (leb (length ws) at) cut (headOf ws at (getD ws at 0))
 
--- an operation carried out: the bytes that it gives, and the place behind it; or the window ends too soon; or it runs over
--- the end of its stream
+-- an operation carried out: the bytes that it gives, and the place behind it; or the window ends before it does; or it gives more
+-- than its stream still takes
 pub data Operation : Type 0 where
   gives : (bytes : List ℕ) (next : ℕ) → Operation
   short : Operation

@@ -12,7 +12,7 @@ use Rattle.xcf_table.specs.Canvas.{depthOf}
 use Rattle.xcf_parse.specs.Drawable.{layer, channel}
 use Rattle.xcf_row.specs.Row.{layerRow, channelRow, maskOwner, channelOwner}
 
--- a structure's fields come before its hierarchy, and a layer's hierarchy before its mask
+-- all fields of a structure, then its hierarchy; a layer's mask comes last
 unfoldable pub channelRows : ℕ → Owner → Rows → Walk Rows
 channelRows size o rows = do
   x ← channel size o

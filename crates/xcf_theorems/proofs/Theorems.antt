@@ -1,6 +1,6 @@
 -- The theorems of `specs/Statements.antt`, each proved by a citation; the examples by computing them.
 -- Assumes nothing.
-use mathlib.Core.Path.{refl}
+use mathlib.Core.Path.{refl, sym}
 use mathlib.Core.List.{[], flatMap}
 use native.Mathlib.Nat.{zero-add, mul-le-mul}
 use native.Mathlib.Omega.{arith}
@@ -18,7 +18,7 @@ use Rattle.xcf_encode.proofs.TileBound.{tile-bound}
 use Rattle.xcf_encode_laws.proofs.TileReadBack.{tile-read-back}
 use Rattle.xcf_encode_laws.proofs.EncoderNumbers.{encoder-listed}
 use Rattle.xcf_walk_laws.proofs.Depends.{outcome-depends}
-use Rattle.xcf_read_laws.proofs.Accepted.{accepted-exactly}
+use Rattle.xcf_read_laws.proofs.Accepted.{accepted-exactly, read-walked}
 use Rattle.xcf_read_laws.proofs.ReadDepends.{read-depends}
 use Rattle.xcf_read_laws.proofs.Numbers.{refusals-listed}
 use Rattle.xcf_read_laws.proofs.ReaderNumbers.{reader-listed}
@@ -26,7 +26,7 @@ use Rattle.xcf_tile_laws.proofs.Marks.{mark-listed}
 use Rattle.xcf_tile_laws.proofs.TileNumbers.{tile-listed}
 use Rattle.xcf_tile_laws.proofs.GoodWhenValid.{tile-good-when-valid as good-when-valid}
 use Rattle.xcf_grid.proofs.PixelLaws.{pixel-byte, one-tile, tile-shown}
-use Rattle.xcf_decode_laws.proofs.Counted.{count-decoded}
+use Rattle.xcf_decode_laws.proofs.Counted.{count-decoded, marks-counted}
 use Rattle.xcf_decode_laws.proofs.Refused.{decoder-listed, counter-listed}
 use Rattle.xcf_decode_laws.proofs.TilesGood.{drawable-good-when-valid}
 use Rattle.xcf_decode_laws.proofs.RowDecoded.{row-decoded}
@@ -39,7 +39,7 @@ use Rattle.xcf_round_trip.proofs.TakenExcepted.{taken-is-excepted}
 use Rattle.xcf_theorems.proofs.ExampleRead.{example-read}
 use Rattle.xcf_theorems.proofs.ExampleWritten.{example-written}
 use Rattle.xcf_theorems.proofs.ExampleDamaged.{example-damaged}
-use Rattle.xcf_theorems.specs.Statements.{ReaderRefusalsAreListed, RefusalsAreListed, PassedBytesDecide, DecoderRefusalsAreListed, CounterRefusalsAreListed, TileRefusalsAreListed, MarksAreListed, EncoderRefusalsAreListed, WriterRefusalsAreListed, ListerRefusalsAreListed, ListerAnswersAsTheReader, AcceptedWithoutFault, AcceptedRowsDecode, TileGoodWhenValid, DrawableTilesGoodWhenValid, CountIsTheDecoders, PixelsAreWhole, MarkedPixelsAreZero, PixelsAreStreams, PixelsAreTheirTiles, EachPixelHasOneTile, TilesAreShown, WrittenReadsBack, GivenRowsAreTaken, TakenRowsAreExcepted, EncodedStreamBounded, StreamReadsBack, TileReadsBack, EncodedTileFits, DamageIsIsolated, ExampleIsDamaged, StructureBytesDecide, ConsumedBytesDecide, ConsumedBytesDecideTheCall, ExamplesHold, ExampleFileIsRead, ExampleFileIsWritten}
+use Rattle.xcf_theorems.specs.Statements.{ReaderRefusalsAreListed, RefusalsAreListed, PassedBytesDecide, DecoderRefusalsAreListed, CounterRefusalsAreListed, TileRefusalsAreListed, MarksAreListed, EncoderRefusalsAreListed, WriterRefusalsAreListed, ListerRefusalsAreListed, ListerAnswersAsTheReader, AcceptedWithoutFault, AcceptedRowsDecode, TileGoodWhenValid, DrawableTilesGoodWhenValid, CountIsOfTheMarks, CountIsTheDecoders, PixelsAreWhole, MarkedPixelsAreZero, PixelsAreStreams, PixelsAreTheirTiles, EachPixelHasOneTile, TilesAreShown, WrittenReadsBack, GivenRowsAreTaken, TakenRowsAreExcepted, EncodedStreamBounded, StreamReadsBack, TileReadsBack, EncodedTileFits, DamageIsIsolated, ExampleIsDamaged, StructureBytesDecide, ConsumedBytesDecide, ConsumedBytesDecideTheCall, ExamplesHold, ExampleFileIsRead, ExampleFileIsWritten}
 
 -- ## Any bytes
 
@@ -48,9 +48,6 @@ reader-refusals-are-listed = reader-listed
 
 pub refusals-are-listed : RefusalsAreListed
 refusals-are-listed = refusals-listed pointerSize (omega arith)
-
-pub passed-bytes-decide : PassedBytesDecide
-passed-bytes-decide A = outcome-depends
 
 pub decoder-refusals-are-listed : DecoderRefusalsAreListed
 decoder-refusals-are-listed = decoder-listed
@@ -79,7 +76,9 @@ lister-answers-as-the-reader = lister-as-reader
 -- ## Exactness
 
 pub accepted-without-fault : AcceptedWithoutFault
-accepted-without-fault = accepted-exactly
+accepted-without-fault file table fit short =
+    let exactly = accepted-exactly file table fit short in
+    (exactly .0, λ x q e. (exactly .1 x q e, read-walked file table fit short (sym e)))
 
 pub accepted-rows-decode : AcceptedRowsDecode
 accepted-rows-decode = row-decoded
@@ -89,6 +88,9 @@ tile-good-when-valid = good-when-valid
 
 pub drawable-tiles-good-when-valid : DrawableTilesGoodWhenValid
 drawable-tiles-good-when-valid = drawable-good-when-valid
+
+pub count-is-of-the-marks : CountIsOfTheMarks
+count-is-of-the-marks = marks-counted
 
 pub count-is-the-decoders : CountIsTheDecoders
 count-is-the-decoders = count-decoded
@@ -140,6 +142,9 @@ damage-is-isolated = isolated
 
 pub example-is-damaged : ExampleIsDamaged
 example-is-damaged = example-damaged
+
+pub passed-bytes-decide : PassedBytesDecide
+passed-bytes-decide A = outcome-depends
 
 pub structure-bytes-decide : StructureBytesDecide
 structure-bytes-decide = read-depends

@@ -7,7 +7,7 @@ use mathlib.Core.Bool.{true, _&&_}
 use lib.ListN.{length}
 use lib.Dec.{leb, eqb}
 use Rattle.xcf_numbers.specs.Limit.{fileLimit, tableRows, tableSize}
-use Rattle.xcf_numbers.specs.Refusal.{listed}
+use Rattle.xcf_numbers.specs.Listed.{listed}
 use Rattle.xcf_laws.proofs.Cases.{by-cases}
 use Rattle.xcf_table.specs.declared.canvas.Canvas.{Canvas}
 use Rattle.xcf_table.specs.Canvas.{sideOk}

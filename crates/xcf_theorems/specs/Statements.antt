@@ -8,7 +8,7 @@ use Prim.Native.Nat.{ℕ, _+_, _-_, _*_, _/_, _≤_, _<_}
 use lib.ListN.{length, getD, take, drop, replicate}
 use Rattle.xcf_numbers.specs.Limit.{fileLimit, depthLimit, rowSize, tableSize, tileSide, encodedSize, windowLimit}
 use Rattle.xcf_numbers.specs.Mark
-use Rattle.xcf_numbers.specs.Refusal.{listed}
+use Rattle.xcf_numbers.specs.Listed.{listed}
 use Rattle.xcf_stream.specs.Stream.{streamAt}
 use Rattle.xcf_stream.specs.Streams.{streamsAt}
 use Rattle.xcf_tile.specs.Tile.{tileOf}
@@ -22,16 +22,16 @@ use Rattle.xcf_walk.specs.Walk.{Walk, got, refused, run, PassedOver}
 use Rattle.xcf_table.specs.Table.{rowAt}
 use Rattle.xcf_store.specs.Pointer.{pointerSize}
 use Rattle.xcf_read.specs.Image.{Image, image, structureByte}
-use Rattle.xcf_read.specs.Answer.{refusals, verdictNumbers, readerNumbers, reading, rowOf}
+use Rattle.xcf_read.specs.Answer.{refusals, verdictNumbers, readerNumbers, readingOf, reading, rowOf}
 use Rattle.xcf_grid.specs.Grid.{tileWidth, tileHeight, tileCount}
 use Rattle.xcf_grid.specs.Pixels.{HasPixel, tileAt, byteOf, byteIn, pixelsOf, shown}
 use Rattle.xcf_window.specs.Window.{window}
 use Rattle.xcf_window.specs.Usable.{fits}
-use Rattle.xcf_decode.specs.Answer.{decoderNumbers, rowDecoding, decoding, counting}
+use Rattle.xcf_decode.specs.Answer.{decoderNumbers, nonzero, rowDecoding, decoding, counting}
 use Rattle.xcf_isolation.specs.Isolation.{Isolation}
 use Rattle.xcf_table.specs.declared.canvas.Canvas.{Canvas}
 use Rattle.xcf_write.specs.Answer.{writing, writerNumbers}
-use Rattle.xcf_listing.specs.Listing.{textSize, listing, listerNumbers}
+use Rattle.xcf_listing.specs.Listing.{listing, listerNumbers, ListsAsTheReader}
 use Rattle.xcf_round_trip.specs.RoundTrip.{RoundTrip}
 use Rattle.xcf_round_trip.specs.Taken.{GivenIsTaken, TakenIsExcepted}
 use Rattle.xcf_theorems.specs.DamagedExample.{DamagedExample}
@@ -39,7 +39,8 @@ use Rattle.xcf_theorems.specs.ExampleFile.{exampleFile, exampleRow, exam
 use Rattle.xcf_theorems.specs.Examples.{table, All}
 
 -- ## Any bytes
--- Whatever it is lent, each exported call answers a number of its list (RULES, "Any bytes").
+-- Whatever it is lent, each exported call answers a number of its list (RULES, "Any bytes"). That it ends, touches nothing else and has
+-- one answer is its contract, in `xcf/src/lib.rt`.
 
 -- The reader answers 0, 11, 15 or a number of its walk.
 abbrev pub ReaderRefusalsAreListed : Type 0
@@ -48,13 +49,6 @@ ReaderRefusalsAreListed = (file table : List ℕ) → listed readerNumbers (read
 -- The walk refuses with 1 to 10, 12, 13 or 16.
 abbrev pub RefusalsAreListed : Type 0
 RefusalsAreListed = (file : List ℕ) (n p : ℕ) → refused n p ≡ run (image pointerSize) file 0 → listed refusals n ≡ true
-
--- What any walk gives depends on the file's length and on the bytes that it passes over.
-abbrev pub PassedBytesDecide : Type 1
-PassedBytesDecide =
-    (A : Type 0) (w : Walk A) (file other : List ℕ) (at : ℕ) → length file ≡ length other
-    → ((i : ℕ) → PassedOver w file at i → getD file i 0 ≡ getD other i 0)
-    → run w file at ≡ run w other at
 
 -- The decoder answers 0, 11, 13, 14 or 15.
 abbrev pub DecoderRefusalsAreListed : Type 0
@@ -96,23 +90,22 @@ ListerRefusalsAreListed =
     (limit : ℕ) (file table text : List ℕ) →
     let a = listing limit file table text .answer in (listed listerNumbers (a .number) ≡ true) × (listed verdictNumbers (a .refused) ≡ true)
 
--- With a table and a text that fit it answers 0, whatever the file, and says of it what the reader says.
+-- With a table and a text that fit it answers 0, whatever the file, says of it what the reader says, leaves the reader's table, and has
+-- put the lines of what was read; with others it answers 11 and leaves both as lent. In full in `ListsAsTheReader`.
 abbrev pub ListerAnswersAsTheReader : Type 0
-ListerAnswersAsTheReader =
-    (file table text : List ℕ) → length table ≡ tableSize → textSize ≤ length text →
-    let x = listing fileLimit file table text in
-    let r = reading file table in
-    (x .answer .number ≡ 0) × (x .answer .refused ≡ r .answer .number) × (x .answer .at ≡ r .answer .place) × (x .table ≡ r .table)
+ListerAnswersAsTheReader = (file table text : List ℕ) → ListsAsTheReader file table text
 
 -- ## Exactness
 -- What the rules let pass is taken, nothing else is, and what is written comes back (RULES, "Exactness").
 
--- A file that is not too long, with a table of the right length, is accepted exactly when the walk meets no fault.
+-- A file that is not too long, with a table of the right length, is accepted exactly when the walk meets no fault; and then the answer
+-- and the table are what the walk gives.
 abbrev pub AcceptedWithoutFault : Type 0
 AcceptedWithoutFault =
     (file table : List ℕ) → length table ≡ tableSize → length file ≤ fileLimit
     → (reading file table .answer .number ≡ 0 → (x : Image) × (q : ℕ) × (got x q ≡ run (image pointerSize) file 0))
-    × ((x : Image) (q : ℕ) → got x q ≡ run (image pointerSize) file 0 → reading file table .answer .number ≡ 0)
+    × ((x : Image) (q : ℕ) → got x q ≡ run (image pointerSize) file 0
+    → (reading file table .answer .number ≡ 0) × (reading file table ≡ readingOf (got x q)))
 
 -- The decoder refuses no row of an accepted file, where the lent buffers fit.
 abbrev pub AcceptedRowsDecode : Type 0
@@ -139,6 +132,12 @@ DrawableTilesGoodWhenValid =
     d .answer .number ≡ 0 → (t : ℕ) → t < r .count
     → GoodWhenValid (window size file r t) (tileWidth (r .width) t) (tileHeight (r .width) (r .height) t) (r .depth) compression
     (getD (d .marks) t 0) (shown (r .width) (r .height) (r .depth) t (d .pixels))
+
+-- The count that the decoder answers is that of the marks it leaves.
+abbrev pub CountIsOfTheMarks : Type 0
+CountIsOfTheMarks =
+    (size : ℕ) (file table : List ℕ) (k compression : ℕ) (pixels marks : List ℕ) →
+    let d = decoding size file table k compression pixels marks in d .answer .number ≡ 0 → d .answer .marked ≡ nonzero (d .marks)
 
 -- The count of marked tiles that asks for no buffers is the decoder's.
 abbrev pub CountIsTheDecoders : Type 0
@@ -243,7 +242,14 @@ abbrev pub ExampleIsDamaged : Type 0
 ExampleIsDamaged =
     (lent pixels marks : List ℕ) → length lent ≡ tableSize → length pixels ≡ 65 → length marks ≡ 2 → DamagedExample lent pixels marks
 
--- For one lent table, what the reader answers and leaves there depends on the file's length and its structure bytes.
+-- What any walk gives depends on the file's length and on the bytes that it passes over.
+abbrev pub PassedBytesDecide : Type 1
+PassedBytesDecide =
+    (A : Type 0) (w : Walk A) (file other : List ℕ) (at : ℕ) → length file ≡ length other
+    → ((i : ℕ) → PassedOver w file at i → getD file i 0 ≡ getD other i 0)
+    → run w file at ≡ run w other at
+
+-- So for one lent table, what the reader answers and leaves there depends on the file's length and its structure bytes.
 abbrev pub StructureBytesDecide : Type 0
 StructureBytesDecide =
     (file other table : List ℕ) → length file ≡ length other
@@ -283,7 +289,7 @@ ExampleFileIsRead =
       table = exampleRow ++ replicate (tableSize - rowSize) 0;
     }
 
--- The example file is written byte for byte, and the output beyond it is unchanged.
+-- The example file is written byte for byte, and what stands behind it in the output stays.
 abbrev pub ExampleFileIsWritten : Type 0
 ExampleFileIsWritten =
     (output : List ℕ) → 143 ≤ length output

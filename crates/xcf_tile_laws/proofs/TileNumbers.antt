@@ -7,7 +7,7 @@ use mathlib.Core.List.{List}
 use mathlib.Core.Bool.{true, _&&_}
 use lib.Dec.{leb, eqb}
 use lib.ListN.{length}
-use Rattle.xcf_numbers.specs.Refusal.{listed}
+use Rattle.xcf_numbers.specs.Listed.{listed}
 use Rattle.xcf_laws.proofs.Cases.{by-cases}
 use Rattle.xcf_tile.specs.Tile.{Tile, tileOf}
 use Rattle.xcf_tile.specs.declared.TileAnswer.{TileAnswer}

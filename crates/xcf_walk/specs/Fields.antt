@@ -17,7 +17,7 @@ number size = do
 unfoldable pub word : Walk ℕ
 word = number 4
 
--- a length word and so many bytes, the last of them zero and not part of the name; of no bytes the last counts as zero
+-- a length word and so many bytes: the name and a zero that closes it; of no bytes the last counts as zero
 unfoldable pub string : Walk Name
 string = do
   lengthAt ← here
