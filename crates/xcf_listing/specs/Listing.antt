@@ -95,13 +95,13 @@ Prints file oldTable oldText newTable newText =
     Lists listLimit file oldTable oldText (listing listLimit file oldTable oldText .answer) newTable newText
 
 -- what the exported call says of a file beside what the reader says: with a table and a text that fit, and with others
-pub record ListsAsTheReader (file table text : List ℕ) : Type 0 where
-  pub verdict : lentFits (length table) (length text) ≡ true →
-      let a = listing fileLimit file table text .answer in
-      let r = reading file table .answer in
+pub record ListsAsTheReader (file oldTable oldText : List ℕ) : Type 0 where
+  pub verdict : lentFits (length oldTable) (length oldText) ≡ true →
+      let a = listing fileLimit file oldTable oldText .answer in
+      let r = reading file oldTable .answer in
       (a .number ≡ 0) × (a .refused ≡ r .number) × (a .at ≡ r .place)
-  pub table : lentFits (length table) (length text) ≡ true → listing fileLimit file table text .table ≡ reading file table .table
-  pub text : lentFits (length table) (length text) ≡ true →
-      let lines = linesOf file (reading file table) in listing fileLimit file table text .text ≡ lines ++ drop (length lines) text
-  pub unfit : lentFits (length table) (length text) ≡ false
-      → listing fileLimit file table text ≡ record { answer = notListed; table = table; text = text }
+  pub table : lentFits (length oldTable) (length oldText) ≡ true → listing fileLimit file oldTable oldText .table ≡ reading file oldTable .table
+  pub text : lentFits (length oldTable) (length oldText) ≡ true →
+      let lines = linesOf file (reading file oldTable) in listing fileLimit file oldTable oldText .text ≡ lines ++ drop (length lines) oldText
+  pub unfit : lentFits (length oldTable) (length oldText) ≡ false
+      → listing fileLimit file oldTable oldText ≡ record { answer = notListed; table = oldTable; text = oldText }
