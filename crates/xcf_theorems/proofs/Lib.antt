@@ -2,5 +2,6 @@ pub mod ExampleRead
 pub mod ExampleWritten
 pub mod ExampleDamaged
 pub mod ListerNumbers
+pub mod ExampleListed
 pub mod WriterNumbers
 pub mod Theorems

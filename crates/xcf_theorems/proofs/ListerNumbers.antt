@@ -37,7 +37,7 @@ lister-listed limit file table text =
     (λ _. (refl, refl))
 
 -- at the file limit it is the reader that finds a file too long
-within-all : (file table : List ℕ) → length table ≡ tableSize → readingWithin fileLimit file table ≡ reading file table
+pub within-all : (file table : List ℕ) → length table ≡ tableSize → readingWithin fileLimit file table ≡ reading file table
 unfolding readingWithin reading
 within-all file table fit =
     by-cases (λ (x : Reading). x ≡ reading file table) (leb (length file) fileLimit) _ _ (λ _. refl) (λ long. rw (eq-eqb _ _ fit, long))

@@ -31,11 +31,11 @@ use Rattle.xcf_decode.specs.Answer.{decoderNumbers, nonzero, rowDecoding, decod
 use Rattle.xcf_isolation.specs.Isolation.{Isolation}
 use Rattle.xcf_table.specs.declared.canvas.Canvas.{Canvas}
 use Rattle.xcf_write.specs.Answer.{writing, writerNumbers}
-use Rattle.xcf_listing.specs.Listing.{listing, listerNumbers, ListsAsTheReader}
+use Rattle.xcf_listing.specs.Listing.{textSize, listing, listerNumbers, ListsAsTheReader}
 use Rattle.xcf_round_trip.specs.RoundTrip.{RoundTrip}
 use Rattle.xcf_round_trip.specs.Taken.{GivenIsTaken, TakenIsExcepted}
 use Rattle.xcf_theorems.specs.DamagedExample.{DamagedExample}
-use Rattle.xcf_theorems.specs.ExampleFile.{exampleFile, exampleRow, exampleTable}
+use Rattle.xcf_theorems.specs.ExampleFile.{exampleFile, exampleRow, exampleTable, exampleListing}
 use Rattle.xcf_theorems.specs.Examples.{table, All}
 
 -- ## Any bytes
@@ -295,3 +295,14 @@ ExampleFileIsWritten =
     (output : List ℕ) → 143 ≤ length output
     → writing (record { width = 1; height = 1; base = 1 }) exampleTable (115 ∷ []) (255 ∷ []) output
     ≡ record { answer = record { number = 0; place = 0; length = 143 }; output = exampleFile ++ drop 143 output }
+
+-- The example file is listed, in buffers that fit: its two lines, accepted, with no tile marked.
+abbrev pub ExampleFileIsListed : Type 0
+ExampleFileIsListed =
+    (table text : List ℕ) → length table ≡ tableSize → textSize ≤ length text
+    → listing fileLimit exampleFile table text
+    ≡ record {
+      answer = record { number = 0; place = 0; refused = 0; at = 0; marked = 0; length = 101 };
+      table = exampleRow ++ replicate (tableSize - rowSize) 0;
+      text = exampleListing ++ drop 101 text;
+    }
