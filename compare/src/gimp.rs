@@ -5,11 +5,26 @@ use std::{env, fs};
 
 use crate::answer::Row;
 use crate::cases::Shape;
+use crate::files::block::word_at;
 use crate::files::drawable::tile_count;
+use crate::files::laid::with;
 
 /// The folder with the files that GIMP wrote.
 pub fn data_folder() -> PathBuf {
     Path::new(env!("CARGO_MANIFEST_DIR")).join("data")
+}
+
+/// The file of the folder that is indexed. Its list of properties starts at
+/// 26, with the colour map.
+pub const INDEXED: &str = "indexed";
+
+/// The indexed file with the length word that old releases gave to colour
+/// maps: a byte for each colour, not three, and the count's word.
+pub fn with_old_map_length(indexed: &[u8]) -> Vec<u8> {
+    let word = |place| word_at(indexed, place);
+    let count = word(34);
+    assert_eq!([word(26), word(30)], [1, 3 * count + 4]);
+    with(indexed, &[(30, count + 4)])
 }
 
 /// What GIMP says of an image.

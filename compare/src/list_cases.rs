@@ -6,6 +6,7 @@ use crate::cases::Shape;
 use crate::files::drawable::{tile_count, tile_shape};
 use crate::files::laid::{
     byte_property, empty_image, grey_layer, layered, pointers_only, property, with, with_byte,
+    words,
 };
 use crate::files::{DEPTHS, DrawableFields, EXAMPLE, ImageFields, Layer, Writer, write_file};
 use crate::list::list;
@@ -106,6 +107,7 @@ fn accepted() -> Vec<ListCase> {
         ListCase::new("accepted_marked_21", marked_21()),
         ListCase::new("accepted_masks", masks()),
         ListCase::new("accepted_no_rows", empty_image(b"v003\0", 0, &[])),
+        ListCase::new("accepted_old_map", old_map()),
         ListCase::new("accepted_overlapping", overlapping()),
         ListCase::new("accepted_same_pointers", repeated(3, 2)),
         ListCase::new("accepted_selection", selection()),
@@ -294,6 +296,15 @@ fn several_tiles() -> Vec<u8> {
     damaged.fields.tiles[4][2] = 0xFF;
     let whole = channel("whole", sides, Vec::new());
     write_file(&image(sides, 1, 1), &[damaged], &[whole])
+}
+
+/// An indexed image whose colour map of two has the length word of old releases.
+fn old_map() -> Vec<u8> {
+    let mut fields = image([3, 2], 2, 1);
+    fields.tag = b"v001\0";
+    fields.list.extend(words(&[COLOUR_MAP, 2 + 4, 2]));
+    fields.list.extend([0x55; 2 * 3]);
+    write_file(&fields, &[layer("chart", [3, 2], 5, Vec::new())], &[])
 }
 
 /// Properties that are skipped by their lengths.

@@ -6,7 +6,7 @@ use std::path::PathBuf;
 
 use xcf_compare::answer::{LIST_LIMIT, OVERRUN, ReadAnswer, Row, TABLE_LENGTH};
 use xcf_compare::decode::Drawable;
-use xcf_compare::gimp::{Facts, data_folder, without_places};
+use xcf_compare::gimp::{Facts, INDEXED, data_folder, with_old_map_length, without_places};
 use xcf_compare::guard::{Guarded, difference};
 use xcf_compare::implementation::agree;
 use xcf_compare::list::{TEXT_LENGTH, list};
@@ -34,9 +34,14 @@ struct Sample {
 }
 
 impl Sample {
-    /// Reads a file: all must accept it and agree.
+    /// Reads a file of the folder.
     fn new(name: &str) -> Self {
         let file = fs::read(data_file(&format!("{name}.xcf"))).unwrap();
+        Sample::of(name, file)
+    }
+
+    /// Reads the bytes of a file: all must accept it and agree.
+    fn of(name: &str, file: Vec<u8>) -> Self {
         let (answer, [table]) = agree(
             || name.to_string(),
             |by| {
@@ -222,6 +227,21 @@ fn one_tile_is_damaged() {
                 assert_eq!(difference(&given, &whole), None, "row {row}, tile {tile}");
             }
         }
+    }
+}
+
+/// With the length word that old releases gave to colour maps, an indexed file
+/// reads and decodes as before.
+#[test]
+fn old_length_of_a_colour_map() {
+    let whole = Sample::new(INDEXED);
+    let old = Sample::of("indexed, old length", with_old_map_length(&whole.file));
+    assert_eq!(old.answer, whole.answer);
+    assert_eq!(difference(&old.table, &whole.table), None);
+    assert_listed(&old, |_| 0);
+    for row in 0..whole.rows().len() {
+        assert!(old.decode(row) == whole.decode(row), "row {row}");
+        assert_eq!(difference(&old.decode(row).0, &whole.exported(row)), None);
     }
 }
 

@@ -141,7 +141,7 @@ fn every_word_of_the_example_agrees() {
 fn every_cut_agrees() {
     let mut random = Random::new(CUTS_SEED);
     let mut tally = Tally::default();
-    for _ in 0..40 {
+    for _ in 0..100 {
         let built = random_file(&mut random);
         let (answer, _) = read_case(&file_case(built.bytes.clone()));
         assert_eq!(answer, built.known.answer);

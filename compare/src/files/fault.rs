@@ -49,8 +49,9 @@ fn spoil_start(random: &mut Random, built: &mut BuiltFile, field: Field) -> Refu
     (UNKNOWN_VERSION, 9)
 }
 
-/// Makes an indexed image's only colour map another property; the fault is
-/// found at the end of the list, which is the file's first.
+/// Makes an indexed image's only colour map another property, of the length
+/// that it takes; the fault is found at the end of the list, which is the
+/// file's first.
 fn spoil_map_type(random: &mut Random, built: &mut BuiltFile, field: Field) -> Option<Refused> {
     let maps = built.fields.iter().filter(|f| f.kind == FieldKind::MapType);
     if maps.count() > 1 || word_at(&built.bytes, 22) != 2 {
@@ -63,6 +64,8 @@ fn spoil_map_type(random: &mut Random, built: &mut BuiltFile, field: Field) -> O
         field.place,
         random.pick(&[18, 21, 1 << 24 | 1]),
     );
+    let count = word_at(&built.bytes, field.place + 8);
+    set_word(&mut built.bytes, field.place + 4, 3 * count + 4);
     Some((BAD_CONTENT, place))
 }
 
@@ -77,7 +80,11 @@ fn faulty_word(random: &mut Random, built: &BuiltFile, field: Field) -> Option<(
         FieldKind::Base => (bad_base(random, built), BAD_BASE),
         FieldKind::LayerType => (other_type(random, old), DISAGREES),
         FieldKind::LayerWordType => (5, FLOATING_SELECTION),
-        FieldKind::FixedLength | FieldKind::MapLength => (other(random, old), PROPERTY_LENGTH),
+        FieldKind::FixedLength => (other(random, old), PROPERTY_LENGTH),
+        FieldKind::MapLength => {
+            let count = word_at(&built.bytes, place + 4);
+            (bad_map_length(random, count), PROPERTY_LENGTH)
+        }
         FieldKind::MapCount if random.one_in(2) => (above(random, 256), BAD_CONTENT),
         FieldKind::Opacity => (above(random, 255), BAD_CONTENT),
         FieldKind::Switch => (above(random, 1), BAD_CONTENT),
@@ -111,9 +118,11 @@ fn displaced_fault(
             Some((above(random, room), PAST_END, place + 4))
         }
         FieldKind::MapCount => {
-            let old = word_at(&built.bytes, place);
-            let count = (old % 257 + random.between(1, 256) as u32) % 257;
-            Some((count, PROPERTY_LENGTH, place - 4))
+            let length = word_at(&built.bytes, place - 4);
+            let wrong: Vec<u32> = (0..=256)
+                .filter(|count| !map_lengths(*count).contains(&length))
+                .collect();
+            Some((random.pick(&wrong), PROPERTY_LENGTH, place - 4))
         }
         FieldKind::LayerPointer
         | FieldKind::ChannelPointer
@@ -126,6 +135,21 @@ fn displaced_fault(
         }
         _ => None,
     }
+}
+
+/// The length words that a colour map of so many colours may have.
+fn map_lengths(count: u32) -> [u32; 2] {
+    [3 * count + 4, count + 4]
+}
+
+/// A length word that a colour map of so many colours may not have.
+fn bad_map_length(random: &mut Random, count: u32) -> u32 {
+    let near = map_lengths(count).map(|right| [right - 1, right + 1]);
+    let any = other(random, count + 4);
+    let mut wrong = near.as_flattened().to_vec();
+    wrong.extend([0, 4, any]);
+    wrong.retain(|length| !map_lengths(count).contains(length));
+    random.pick(&wrong)
 }
 
 /// A base type that the file's version does not have.

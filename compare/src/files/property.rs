@@ -15,6 +15,9 @@ pub enum Owner {
 #[derive(Clone, Debug)]
 pub struct Property {
     pub kind: u32,
+    /// What the length word says: the payload's length but in the colour maps
+    /// of old releases.
+    length: u32,
     pub payload: Vec<u8>,
 }
 
@@ -65,20 +68,30 @@ const FREE: [u32; 14] = [
 ];
 
 impl Property {
+    fn new(kind: u32, payload: Vec<u8>) -> Self {
+        Property {
+            kind,
+            length: payload.len() as u32,
+            payload,
+        }
+    }
+
+    /// A colour map, often with the length word of old releases.
     pub fn colour_map(random: &mut Random) -> Self {
         let small = random.between(0, 4) as u32;
         let count = random.pick(&[small, small, small, small, small, small, 255, 256]);
         let mut payload = count.to_be_bytes().to_vec();
         payload.extend(random.bytes(3 * count as usize));
-        Property { kind: 1, payload }
+        let mut map = Property::new(1, payload);
+        if random.one_in(3) {
+            map.length = count + 4;
+        }
+        map
     }
 
     /// The compression of run-length encoded tiles.
     pub fn encoded() -> Self {
-        Property {
-            kind: 17,
-            payload: vec![1],
-        }
+        Property::new(17, vec![1])
     }
 
     fn random(random: &mut Random, owner: Owner) -> Self {
@@ -99,7 +112,7 @@ impl Property {
             payload.fill(0);
             payload[length - 1] = random.between(0, most) as u8;
         }
-        Property { kind, payload }
+        Property::new(kind, payload)
     }
 
     /// A property of a type that is skipped by its length; outside the
@@ -119,7 +132,7 @@ impl Property {
             _ => random.between(1, 60),
         };
         let payload = random.bytes(length);
-        Property { kind, payload }
+        Property::new(kind, payload)
     }
 
     /// The payload as one number, high byte first.
@@ -156,13 +169,16 @@ pub fn push_list(block: &mut Block, owner: Owner, list: &[Property]) {
 }
 
 fn push_property(block: &mut Block, owner: Owner, property: &Property) {
-    let Property { kind, payload } = property;
-    let length = payload.len() as u32;
+    let Property {
+        kind,
+        length,
+        payload,
+    } = property;
     let is_map = owner == Owner::Image && *kind == 1;
     let is_fixed = FIXED.iter().any(|(fixed, _)| fixed == kind);
     let type_kind = match owner {
         _ if is_map => FieldKind::MapType,
-        Owner::Layer if length == 4 => FieldKind::LayerWordType,
+        Owner::Layer if *length == 4 => FieldKind::LayerWordType,
         _ => FieldKind::PropertyType,
     };
     let length_kind = match is_fixed {
@@ -171,7 +187,7 @@ fn push_property(block: &mut Block, owner: Owner, property: &Property) {
         false => FieldKind::FreeLength,
     };
     block.word(type_kind, *kind);
-    block.word(length_kind, length);
+    block.word(length_kind, *length);
     if is_map {
         block.push(FieldKind::MapCount, &payload[..4]);
         block.push(FieldKind::Content, &payload[4..]);

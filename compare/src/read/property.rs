@@ -39,17 +39,17 @@ impl Head {
         })
     }
 
-    /// Refuses a length other than `right`.
-    fn test_length(&self, right: u32) -> Result<(), Refusal> {
+    /// Refuses a length that is none of the right ones.
+    fn test_length(&self, right: &[u32]) -> Result<(), Refusal> {
         self.length
-            .tested(self.length.value == right, PROPERTY_LENGTH)?;
+            .tested(right.contains(&self.length.value), PROPERTY_LENGTH)?;
         Ok(())
     }
 
     /// The payload, once the length is right for the type.
     fn payload<'a>(&self, cursor: &mut Cursor<'a>) -> Result<Payload<'a>, Refusal> {
         if let Some(right) = only_length(self.kind.value) {
-            self.test_length(right)?;
+            self.test_length(&[right])?;
         }
         let place = cursor.place();
         let bytes = cursor.bytes(self.length.value as usize)?;
@@ -57,13 +57,13 @@ impl Head {
     }
 
     /// Passes over a colour map: a count of at most 256 colours, and three
-    /// bytes for each.
+    /// bytes for each, whichever of the two lengths it has.
     fn colour_map(&self, cursor: &mut Cursor) -> Result<(), Refusal> {
         self.length
             .tested(self.length.value >= 4, PROPERTY_LENGTH)?;
         let count = cursor.word()?;
         count.tested(count.value <= 256, BAD_CONTENT)?;
-        self.test_length(3 * count.value + 4)?;
+        self.test_length(&[3 * count.value + 4, count.value + 4])?;
         cursor.bytes(3 * count.value as usize)?;
         Ok(())
     }

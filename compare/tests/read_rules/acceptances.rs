@@ -143,6 +143,10 @@ fn skipped_types() {
             assert_accepted(&channel(&list), GREY, &[CHANNEL]);
         }
     }
+    // What would be a colour map with an old length word in the image's list.
+    let list = byte_property(1, &[0, 0, 0, 1, 9]);
+    assert_accepted(&grey_layer(&list), GREY, &[LAYER]);
+    assert_accepted(&channel(&list), GREY, &[CHANNEL]);
 }
 
 /// What only matters in other lists, or nowhere, with any content.

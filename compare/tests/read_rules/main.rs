@@ -2,6 +2,7 @@
 //! implementations with the answers written out.
 
 mod acceptances;
+mod maps;
 mod order;
 mod refusals;
 

@@ -1,7 +1,7 @@
 -- What a property's length and content may be, by its type, and what a list of properties says.
-use Prim.Native.Nat.{ℕ}
+use Prim.Native.Nat.{ℕ, _+_, _*_}
 use mathlib.Core.List.{List, [], _∷_}
-use mathlib.Core.Bool.{Bool, true, cond, _&&_}
+use mathlib.Core.Bool.{Bool, true, cond, _&&_, _||_}
 use lib.ListN.{length, getD}
 use lib.Dec.{leb, ltb, eqb}
 use Rattle.xcf_numbers.specs.Limit.{fullOpacity}
@@ -40,6 +40,10 @@ contentOf b = record { first = cond (eqb (length b) 1) (getD b 0 0) (wordOf b 0)
 
 unfoldable pub isColourMap : ℕ → ℕ → Bool
 isColourMap list kind = eqb list imageList && eqb kind PropertyType.colourMap
+
+-- what the length word of a map of count colours may say: the bytes that it takes, or, as old releases wrote, count + 4
+unfoldable pub mapLengthOk : ℕ → ℕ → Bool
+mapLengthOk count n = eqb n (3 * count + 4) || eqb n (count + 4)
 
 -- type 5 in a layer's list
 unfoldable pub isFloating : ℕ → ℕ → Bool

@@ -5,7 +5,7 @@ ghost use mathlib.Core.Bool.{cond};
 ghost use lib.ListN.{length};
 ghost use lib.Dec.{eqb};
 ghost use Rattle.xcf_store.specs.Word.{part, wordOf};
-ghost use Rattle.xcf_property.specs.Property.{lengthOk, contentOf, isColourMap, isFloating, lacksMap, allowed, defaults, activeType, put, noProperties, imageList, layerList};
+ghost use Rattle.xcf_property.specs.Property.{lengthOk, contentOf, isColourMap, mapLengthOk, isFloating, lacksMap, allowed, defaults, activeType, put, noProperties, imageList, layerList};
 use xcf_numbers::kind;
 use xcf_numbers::limit::FULL_OPACITY;
 use xcf_numbers::property_type;
@@ -129,6 +129,15 @@ pub fn is_colour_map(list: u32, kind: u32) -> bool
     } else {
         false
     }
+}
+
+// Whether a map of count colours may have a length word of n.
+pub fn map_length_ok(count: u32, n: u32) -> bool
+    ensures { λ r. ⌜ r ≡ mapLengthOk count n ⌝ }
+{
+    let colours = count as usize;
+    let size = n as usize;
+    (size == 3 * colours + 4) | (size == colours + 4)
 }
 
 pub fn is_floating(list: u32, kind: u32) -> bool

@@ -1,4 +1,5 @@
 pub mod ExampleRead
+pub mod ExampleMaps
 pub mod ExampleWritten
 pub mod ExampleDamaged
 pub mod ListerNumbers

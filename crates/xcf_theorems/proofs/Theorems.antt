@@ -18,6 +18,7 @@ use Rattle.xcf_encode.proofs.TileBound.{tile-bound}
 use Rattle.xcf_encode_laws.proofs.TileReadBack.{tile-read-back}
 use Rattle.xcf_encode_laws.proofs.EncoderNumbers.{encoder-listed}
 use Rattle.xcf_walk_laws.proofs.Depends.{outcome-depends}
+use Rattle.xcf_walk_laws.proofs.Map.{map-rule}
 use Rattle.xcf_read_laws.proofs.Accepted.{accepted-exactly, read-walked}
 use Rattle.xcf_read_laws.proofs.ReadDepends.{read-depends}
 use Rattle.xcf_read_laws.proofs.Numbers.{refusals-listed}
@@ -36,11 +37,12 @@ use Rattle.xcf_theorems.proofs.ListerNumbers.{lister-listed, lister-as-
 use Rattle.xcf_round_trip.proofs.RoundTrip.{round-trip}
 use Rattle.xcf_round_trip.proofs.GivenTaken.{given-is-taken}
 use Rattle.xcf_round_trip.proofs.TakenExcepted.{taken-is-excepted}
+use Rattle.xcf_theorems.proofs.ExampleMaps.{example-maps}
 use Rattle.xcf_theorems.proofs.ExampleRead.{example-read}
 use Rattle.xcf_theorems.proofs.ExampleWritten.{example-written}
 use Rattle.xcf_theorems.proofs.ExampleListed.{example-listed}
 use Rattle.xcf_theorems.proofs.ExampleDamaged.{example-damaged}
-use Rattle.xcf_theorems.specs.Statements.{ReaderRefusalsAreListed, RefusalsAreListed, PassedBytesDecide, DecoderRefusalsAreListed, CounterRefusalsAreListed, TileRefusalsAreListed, MarksAreListed, EncoderRefusalsAreListed, WriterRefusalsAreListed, ListerRefusalsAreListed, ListerAnswersAsTheReader, AcceptedWithoutFault, AcceptedRowsDecode, TileGoodWhenValid, DrawableTilesGoodWhenValid, CountIsOfTheMarks, CountIsTheDecoders, PixelsAreWhole, MarkedPixelsAreZero, PixelsAreStreams, PixelsAreTheirTiles, EachPixelHasOneTile, TilesAreShown, WrittenReadsBack, GivenRowsAreTaken, TakenRowsAreExcepted, EncodedStreamBounded, StreamReadsBack, TileReadsBack, EncodedTileFits, DamageIsIsolated, ExampleIsDamaged, StructureBytesDecide, ConsumedBytesDecide, ConsumedBytesDecideTheCall, ExamplesHold, ExampleFileIsRead, ExampleFileIsWritten, ExampleFileIsListed}
+use Rattle.xcf_theorems.specs.Statements.{ReaderRefusalsAreListed, RefusalsAreListed, PassedBytesDecide, DecoderRefusalsAreListed, CounterRefusalsAreListed, TileRefusalsAreListed, MarksAreListed, EncoderRefusalsAreListed, WriterRefusalsAreListed, ListerRefusalsAreListed, ListerAnswersAsTheReader, AcceptedWithoutFault, ColourMapsAreTaken, ExampleMapsAreRead, AcceptedRowsDecode, TileGoodWhenValid, DrawableTilesGoodWhenValid, CountIsOfTheMarks, CountIsTheDecoders, PixelsAreWhole, MarkedPixelsAreZero, PixelsAreStreams, PixelsAreTheirTiles, EachPixelHasOneTile, TilesAreShown, WrittenReadsBack, GivenRowsAreTaken, TakenRowsAreExcepted, EncodedStreamBounded, StreamReadsBack, TileReadsBack, EncodedTileFits, DamageIsIsolated, ExampleIsDamaged, StructureBytesDecide, ConsumedBytesDecide, ConsumedBytesDecideTheCall, ExamplesHold, ExampleFileIsRead, ExampleFileIsWritten, ExampleFileIsListed}
 
 -- ## Any bytes
 
@@ -80,6 +82,12 @@ pub accepted-without-fault : AcceptedWithoutFault
 accepted-without-fault file table fit short =
     let exactly = accepted-exactly file table fit short in
     (exactly .0, λ x q e. (exactly .1 x q e, read-walked file table fit short (sym e)))
+
+pub colour-maps-are-taken : ColourMapsAreTaken
+colour-maps-are-taken = map-rule
+
+pub example-maps-are-read : ExampleMapsAreRead
+example-maps-are-read = example-maps
 
 pub accepted-rows-decode : AcceptedRowsDecode
 accepted-rows-decode = row-decoded

@@ -1,4 +1,5 @@
 pub mod Examples
 pub mod ExampleFile
+pub mod MapExample
 pub mod DamagedExample
 pub mod Statements

@@ -8,6 +8,8 @@ use Prim.Native.Nat.{ℕ, _+_, _-_, _*_, _/_, _≤_, _<_}
 use lib.ListN.{length, getD, take, drop, replicate}
 use Rattle.xcf_numbers.specs.Limit.{fileLimit, depthLimit, rowSize, tableSize, tileSide, encodedSize, windowLimit}
 use Rattle.xcf_numbers.specs.Mark
+use Rattle.xcf_numbers.specs.PropertyType
+use Rattle.xcf_numbers.specs.Refusal
 use Rattle.xcf_numbers.specs.Listed.{listed}
 use Rattle.xcf_stream.specs.Stream.{streamAt}
 use Rattle.xcf_stream.specs.Streams.{streamsAt}
@@ -18,11 +20,14 @@ use Rattle.xcf_tile_laws.specs.Valid.{GoodWhenValid}
 use Rattle.xcf_segment.specs.Segment.{segments, encodeStream}
 use Rattle.xcf_encode.specs.Tile.{planes, operationsOf, encodeTile}
 use Rattle.xcf_encode.specs.Answer.{encoderNumbers, tileRefusal, encodeAnswer}
+use Rattle.xcf_property.specs.Property.{imageList}
 use Rattle.xcf_walk.specs.Walk.{Walk, got, refused, run, PassedOver}
+use Rattle.xcf_walk.specs.Property.{content}
+use Rattle.xcf_walk_laws.specs.Map.{MapRule}
 use Rattle.xcf_table.specs.Table.{rowAt}
 use Rattle.xcf_store.specs.Pointer.{pointerSize}
 use Rattle.xcf_read.specs.Image.{Image, image, structureByte}
-use Rattle.xcf_read.specs.Answer.{refusals, verdictNumbers, readerNumbers, readingOf, reading, rowOf}
+use Rattle.xcf_read.specs.Answer.{refusal, refusals, verdictNumbers, readerNumbers, readingOf, reading, rowOf}
 use Rattle.xcf_grid.specs.Grid.{tileWidth, tileHeight, tileCount}
 use Rattle.xcf_grid.specs.Pixels.{HasPixel, tileAt, byteOf, byteIn, pixelsOf, shown}
 use Rattle.xcf_window.specs.Window.{window}
@@ -37,6 +42,7 @@ use Rattle.xcf_round_trip.specs.Taken.{GivenIsTaken, TakenIsExcepted}
 use Rattle.xcf_theorems.specs.DamagedExample.{DamagedExample}
 use Rattle.xcf_theorems.specs.ExampleFile.{exampleFile, exampleRow, exampleTable, exampleListing}
 use Rattle.xcf_theorems.specs.Examples.{table, All}
+use Rattle.xcf_theorems.specs.MapExample.{mapFile}
 
 -- ## Any bytes
 -- Whatever it is lent, each exported call answers a number of its list (RULES, "Any bytes"). That it ends, touches nothing else and has
@@ -106,6 +112,25 @@ AcceptedWithoutFault =
     → (reading file table .answer .number ≡ 0 → (x : Image) × (q : ℕ) × (got x q ≡ run (image pointerSize) file 0))
     × ((x : Image) (q : ℕ) → got x q ≡ run (image pointerSize) file 0
     → (reading file table .answer .number ≡ 0) × (reading file table ≡ readingOf (got x q)))
+
+-- A colour map in the image's list is taken exactly when it has at most 256 colours, its length word says 3n + 4 or, as in files of old
+-- releases, n + 4 for its n colours, and its 3n + 4 bytes are in the file; whichever its length, what follows stands behind these. Any
+-- other length is a 6 (in full in `xcf_walk_laws/specs/Map.antt`).
+abbrev pub ColourMapsAreTaken : Type 0
+ColourMapsAreTaken =
+    (file : List ℕ) (lengthAt n at : ℕ) → MapRule file lengthAt n at (run (content imageList PropertyType.colourMap lengthAt n) file at)
+
+-- Such are the maps of one file with the lengths 7 and 5, which reads the same with either; with 6 it is refused.
+abbrev pub ExampleMapsAreRead : Type 0
+ExampleMapsAreRead =
+    (table : List ℕ) → length table ≡ tableSize
+    → (reading (mapFile 7) table
+    ≡ record {
+      answer = record { number = 0; place = 0; width = 1; height = 1; base = 2; version = 1; compression = 1; rows = 0 };
+      table = replicate tableSize 0;
+    })
+    × (reading (mapFile 5) table ≡ reading (mapFile 7) table)
+    × (reading (mapFile 6) table .answer ≡ refusal Refusal.badLength 30)
 
 -- The decoder refuses no row of an accepted file, where the lent buffers fit.
 abbrev pub AcceptedRowsDecode : Type 0

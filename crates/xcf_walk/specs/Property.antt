@@ -1,5 +1,5 @@
 -- Property lists: type, length, payload, ended by type 0; one rule for the image's list, a layer's, a mask's and a channel's.
-use Prim.Native.Nat.{ℕ, _+_, _*_}
+use Prim.Native.Nat.{ℕ, _*_}
 use mathlib.Core.Bool.{cond, not}
 use lib.Dec.{leb, eqb}
 use Rattle.xcf_numbers.specs.Limit.{colourLimit}
@@ -10,7 +10,7 @@ use Rattle.xcf_walk.specs.declared.property.Property.{Property}
 use Rattle.xcf_property.specs.declared.Properties.{Properties}
 use Rattle.xcf_walk.specs.Walk.{Walk, done, bytes, here, must, Turn, more, last, loop, _>>=_, _>>_}
 use Rattle.xcf_walk.specs.Fields.{word}
-use Rattle.xcf_property.specs.Property.{lengthOk, contentOf, isColourMap, isFloating, lacksMap, allowed, defaults, put}
+use Rattle.xcf_property.specs.Property.{lengthOk, contentOf, isColourMap, mapLengthOk, isFloating, lacksMap, allowed, defaults, put}
 
 -- a payload whose length its type allows
 unfoldable pub payload : ℕ → ℕ → ℕ → Walk Content
@@ -19,21 +19,21 @@ payload kind lengthAt n = do
   b ← bytes n
   done (contentOf b)
 
--- the image's colour map: a count of at most 256 colours, and three bytes for each
+-- the image's colour map: a count of at most 256 colours, and three bytes for each, whichever of its two lengths is said
 unfoldable pub colourMap : ℕ → ℕ → Walk Content
 colourMap lengthAt n = do
   must (leb 4 n) Refusal.badLength lengthAt
   countAt ← here
   count ← word
   must (leb count colourLimit) Refusal.badContent countAt
-  must (eqb n (3 * count + 4)) Refusal.badLength lengthAt
+  must (mapLengthOk count n) Refusal.badLength lengthAt
   bytes (3 * count)
   done (record { first = count; second = 0 })
 
 unfoldable pub content : ℕ → ℕ → ℕ → ℕ → Walk Content
 content list kind lengthAt n = cond (isColourMap list kind) (colourMap lengthAt n) (payload kind lengthAt n)
 
--- a property: its type, the place of its type word, the place and the length of its payload, and its content
+-- a property: its type, the place of its type word, the place of its payload, what its length word says, and its content
 unfoldable pub property : ℕ → Walk Property
 property list = do
   start ← here

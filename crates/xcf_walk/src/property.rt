@@ -18,13 +18,14 @@ use xcf_property::is_colour_map;
 use xcf_property::is_floating;
 use xcf_property::lacks_map;
 use xcf_property::length_ok;
+use xcf_property::map_length_ok;
 
 pub struct ContentRead {
     pub content: Content,
     pub cursor: Cursor,
 }
 
-// A property: its type, the place of its type word, the place and the length of its payload, and its content.
+// A property: its type, the place of its type word, the place of its payload, what its length word says, and its content.
 pub struct Property {
     pub kind: u32,
     pub start: usize,
@@ -76,14 +77,13 @@ impl Cursor {
     fn colour_map(self, file: &[u8], at: usize, n: u32) -> ContentRead
         ensures { λ r. ⌜ Reads self (colourMap at n) (now (file .entry)) noContent (r .cursor) (r .content) ⌝ }
     {
-        let size = n as usize;
-        let long = self.check(4 <= size, refusal::BAD_LENGTH, at);
+        let long = self.check(4 <= n, refusal::BAD_LENGTH, at);
         let count = long.word(file);
         let few = count
             .cursor
             .check(count.value <= COLOUR_LIMIT, refusal::BAD_CONTENT, long.at);
+        let right = few.check(map_length_ok(count.value, n), refusal::BAD_LENGTH, at);
         let colours = 3 * (count.value as usize);
-        let right = few.check(size == colours + 4, refusal::BAD_LENGTH, at);
         let next = right.skip(file, colours);
         if next.number != 0 {
             return ContentRead {

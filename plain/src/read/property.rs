@@ -39,13 +39,14 @@ fn at_most(cursor: &Cursor, most: u32, value: u32, back: usize) -> Read<u32> {
     Ok(value)
 }
 
-/// Passes over a colour map, whose length is given.
+/// Passes over a colour map, whose length word is given: it says how many bytes
+/// there are or, in old files, a byte for each colour and the count's word.
 fn colour_map(cursor: &mut Cursor, length: u32) -> Read<()> {
     if length < 4 {
         return Err(cursor.refusal(Fault::PropertyLength, 4));
     }
     let count = cursor.tested_word(Fault::BadContent, |count| count <= 256)?;
-    if length != 3 * count + 4 {
+    if length != 3 * count + 4 && length != count + 4 {
         return Err(cursor.refusal(Fault::PropertyLength, 8));
     }
     cursor.bytes(3 * count as usize)?;

@@ -1,4 +1,4 @@
--- `colour_map` meets its contract: its checks, word and skip are the walk's do block (`leads`);
+-- `colour_map` meets its contract: its checks, word and skip are the walk's do block (`leads`), the test of its length is `map_length_ok`'s;
 -- beside a refusal stands no content.
 use mathlib.Core.Path.{refl}
 use native.Mathlib.Omega.{arith}
@@ -9,9 +9,12 @@ use Rattle.xcf_walk.proofs.Resume.{then, then-here, ends, by-skip, by-c
 use Rattle.xcf_walk.proofs.cursor.Cursor.colour_map.Statement.{statement}
 use Rattle.xcf_walk.proofs.cursor.Cursor.colour_map.Tie as tie
 
--- from the skip to the number of colours read, and to the start
+-- from the skip to the test of the length, to the number of colours read, and to the start
+abbrev tested : tie.After-skip → tie.After-map-length-ok
+tested c = c .before .before .before
+
 abbrev colours : tie.After-skip → tie.After-word
-colours c = c .before .before .before .before .before
+colours c = tested c .before .before .before
 
 abbrev begin : tie.After-skip → tie.Start
 begin c = colours c .before .before .before
@@ -22,8 +25,8 @@ leads : (c : tie.After-skip)
 unfolding colourMap
 leads c =
     then _ (by-check _ _ _ _ (omega arith) refl (colours c .before .check .ensures))
-    (then-here _ _ (λ _. refl) (then _ (colours c .word .ensures .leads) (then _ (by-check _ _ _ _ (omega arith) refl (c .before .before .before .check2 .ensures))
-    (then _ (by-check _ _ _ _ (omega arith) refl (c .before .check3 .ensures)) (then _ (by-skip _ _ _ (c .skip .ensures)) ends)))))
+    (then-here _ _ (λ _. refl) (then _ (colours c .word .ensures .leads) (then _ (by-check _ _ _ _ (omega arith) refl (tested c .before .check2 .ensures))
+    (then _ (by-check _ _ _ _ (omega arith) (tested c .map-length-ok .ensures) (c .before .before .check3 .ensures)) (then _ (by-skip _ _ _ (c .skip .ensures)) ends)))))
 
 check-requires : tie.Need-check-requires
 check-requires c κs = search needs
@@ -34,17 +37,17 @@ word-requires c κs = search needs
 check-requires-2 : tie.Need-check-requires-2
 check-requires-2 c κs = search needs
 
+map-length-ok-requires : tie.Need-map-length-ok-requires
+map-length-ok-requires c κs = search needs
+
+check-requires-3 : tie.Need-check-requires-3
+check-requires-3 c κs = search needs
+
 cast-colours : tie.Need-cast-colours
 cast-colours c = search needs
 
 mul-colours : tie.Need-mul-colours
 mul-colours c = search needs
-
-add-check : tie.Need-add-check
-add-check c = search needs
-
-check-requires-3 : tie.Need-check-requires-3
-check-requires-3 c κs = search needs
 
 skip-requires : tie.Need-skip-requires
 skip-requires c κs = search needs
@@ -62,10 +65,10 @@ colour-map-spec =
     check-requires
     word-requires
     check-requires-2
+    map-length-ok-requires
+    check-requires-3
     cast-colours
     mul-colours
-    add-check
-    check-requires-3
     skip-requires
     returns
     returns-2)
