@@ -5,7 +5,7 @@ mod common;
 use std::ffi::OsStr;
 use std::os::unix::ffi::OsStrExt;
 
-use common::files::{altered, empty, example};
+use common::files::{INDEXED, altered, empty, example, indexed, put_word};
 use common::refusals::refused_files;
 use common::{Folder, Pam};
 
@@ -42,6 +42,26 @@ fn marked_tiles_are_counted_and_are_status_1() {
     folder.damage("two.xcf", 1, &[0, 11]);
     let line = "two.xcf: accepted, 2 rows, 3 of 24 tiles marked\n";
     folder.xcf("check two.xcf").is(1, line, "");
+}
+
+/// A map of two colours takes ten bytes; some old releases said six.
+#[test]
+fn both_lengths_of_a_colour_map_are_accepted() {
+    let folder = Folder::new();
+    for length in 0..=12 {
+        let mut file = indexed(INDEXED);
+        put_word(&mut file, 30, length);
+        folder.put("map.xcf", &file);
+        let checked = folder.xcf("check map.xcf");
+        match length {
+            6 | 10 => checked.is(0, "map.xcf: accepted, 1 row, 1 tile, none marked\n", ""),
+            _ => checked.is(
+                1,
+                "map.xcf: refused 6 at 30: the length of a property does not fit its type (a colour map of n colours may say 3n + 4 or n + 4)\n",
+                "",
+            ),
+        };
+    }
 }
 
 #[test]
