@@ -17,8 +17,8 @@
  *    4   a side is not 1 to 16,384                                        its word; xcf_write: 14 width, 18 height
  *    5   the base type exceeds 2, or is 2 in version 0;                   its word
  *        xcf_write: it exceeds 1                                          22
- *    6   the length of a property does not fit its type; that of a map    the length word
- *        of n colours is 3n + 4, or n + 4 as old releases wrote it
+ *    6   the length of a property does not fit its type; that of a        the length word
+ *        colour map of n colours is 3n + 4, or n + 4 in old files
  *    7   a payload has a value that is not allowed;                       the payload's first byte
  *        an indexed image has no colour map                               the type word that ends the image's list
  *    8   there are more than 48 layers or 32 channels                     the first pointer too many

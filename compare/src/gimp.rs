@@ -16,7 +16,7 @@ pub fn data_folder() -> PathBuf {
 
 /// The file of the folder that is indexed. Its list of properties starts at
 /// 26, with the colour map.
-pub const INDEXED: &str = "indexed";
+pub const INDEXED_FILE: &str = "indexed";
 
 /// The indexed file with the length word that old releases gave to colour
 /// maps: a byte for each colour, not three, and the count's word.

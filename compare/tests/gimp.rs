@@ -6,7 +6,7 @@ use std::path::PathBuf;
 
 use xcf_compare::answer::{LIST_LIMIT, OVERRUN, ReadAnswer, Row, TABLE_LENGTH};
 use xcf_compare::decode::Drawable;
-use xcf_compare::gimp::{Facts, INDEXED, data_folder, with_old_map_length, without_places};
+use xcf_compare::gimp::{Facts, INDEXED_FILE, data_folder, with_old_map_length, without_places};
 use xcf_compare::guard::{Guarded, difference};
 use xcf_compare::implementation::agree;
 use xcf_compare::list::{TEXT_LENGTH, list};
@@ -234,7 +234,7 @@ fn one_tile_is_damaged() {
 /// reads and decodes as before.
 #[test]
 fn old_length_of_a_colour_map() {
-    let whole = Sample::new(INDEXED);
+    let whole = Sample::new(INDEXED_FILE);
     let old = Sample::of("indexed, old length", with_old_map_length(&whole.file));
     assert_eq!(old.answer, whole.answer);
     assert_eq!(difference(&old.table, &whole.table), None);

@@ -4,7 +4,7 @@
 use std::fs;
 
 use xcf_compare::answer::Row;
-use xcf_compare::gimp::{self, Facts, INDEXED, with_old_map_length, without_places};
+use xcf_compare::gimp::{self, Facts, INDEXED_FILE, with_old_map_length, without_places};
 use xcf_compare::guard::difference;
 use xcf_compare::pictures::Content::{Mixed, Noise, White};
 use xcf_compare::pictures::{ACTIVE, APPLY_MASK, Picture, SELECTION, VISIBLE};
@@ -153,24 +153,24 @@ fn gimp_opens_what_is_written() {
     report_found("GIMP", &pictures, |_| true);
 }
 
-/// GIMP takes an indexed file with the length word of old releases, too, and
-/// finds in it what it found in the file that it wrote.
+/// What the rules take, GIMP takes: in an indexed file with the length word of
+/// old releases it finds what it found in the file that it wrote.
 #[test]
 fn gimp_opens_an_old_colour_map() {
     if !is_here("gimp") {
         report("GIMP is not on this machine: an old colour map was not opened in it");
         return;
     }
-    let stored = |extension: &str| gimp::data_folder().join(format!("{INDEXED}.{extension}"));
+    let stored = |extension: &str| gimp::data_folder().join(format!("{INDEXED_FILE}.{extension}"));
     let scratch = Scratch::new("old-map");
-    let file = scratch.file(INDEXED, "xcf");
+    let file = scratch.file(INDEXED_FILE, "xcf");
     let old = with_old_map_length(&fs::read(stored("xcf")).unwrap());
     fs::write(&file, old).unwrap();
     open_in_gimp(&scratch, &[file]);
-    let facts = Facts::read(&scratch.file(INDEXED, "txt"));
+    let facts = Facts::read(&scratch.file(INDEXED_FILE, "txt"));
     assert_eq!(facts, Facts::read(&stored("txt")));
     for k in 0..facts.drawables.len() {
-        let pixels = gimp::exported_pixels(&scratch.file(INDEXED, &format!("{k}.hex")));
+        let pixels = gimp::exported_pixels(&scratch.file(INDEXED_FILE, &format!("{k}.hex")));
         let whole = fs::read(stored(&format!("{k}.raw"))).unwrap();
         assert_same(&pixels, &whole, &format!("row {k}"));
     }

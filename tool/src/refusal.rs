@@ -37,7 +37,7 @@ fn meaning(number: u64) -> &'static str {
         4 => "a width or height is outside the range 1 to 16,384",
         5 => "the base type is none of 0 (RGB), 1 (greyscale) and, from version 1 on, 2 (indexed)",
         6 => {
-            "the length of a property does not fit its type (a colour map of n colours may say 3n + 4 or n + 4)"
+            "the length of a property does not fit its type (that of a colour map of n colours is 3n + 4 or n + 4)"
         }
         7 => "a property holds a value that is not allowed, or an indexed image has no colour map",
         8 => "the image has more than 48 layers or more than 32 channels",

@@ -57,7 +57,7 @@ fn both_lengths_of_a_colour_map_are_accepted() {
             6 | 10 => checked.is(0, "map.xcf: accepted, 1 row, 1 tile, none marked\n", ""),
             _ => checked.is(
                 1,
-                "map.xcf: refused 6 at 30: the length of a property does not fit its type (a colour map of n colours may say 3n + 4 or n + 4)\n",
+                "map.xcf: refused 6 at 30: the length of a property does not fit its type (that of a colour map of n colours is 3n + 4 or n + 4)\n",
                 "",
             ),
         };

@@ -99,13 +99,16 @@ fn colour_map() {
         // The count before the length.
         assert_refused(&image(&words(&[1, 5, 257])), 7, 34);
         assert_refused(&image(&words(&[1, 775, 257])), 7, 34);
+        assert_refused(&image(&words(&[1, 261, 257])), 7, 34);
         assert_refused(&image(&words(&[1, 4, 1 << 31])), 7, 34);
         // The length before the colours.
         assert_refused(&image(&words(&[1, 771, 256])), 6, 30);
         assert_refused(&image(&words(&[1, 5, 0])), 6, 30);
         // The colours, at the first of them.
         assert_refused(&image(&words(&[1, 772, 256])), 1, 38);
+        assert_refused(&image(&words(&[1, 260, 256])), 1, 38);
         assert_refused(&image(&words(&[1, 10, 2, 0x0102_0304])), 1, 38);
+        assert_refused(&image(&words(&[1, 6, 2, 0x0102_0304])), 1, 38);
         // What follows the map.
         assert_refused(&image(&words(&[1, 4, 0])), 1, 38);
     }

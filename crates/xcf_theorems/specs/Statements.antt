@@ -115,7 +115,7 @@ AcceptedWithoutFault =
 
 -- A colour map in the image's list is taken exactly when it has at most 256 colours, its length word says 3n + 4 or, as in files of old
 -- releases, n + 4 for its n colours, and its 3n + 4 bytes are in the file; whichever its length, what follows stands behind these. Any
--- other length is a 6 (in full in `xcf_walk_laws/specs/Map.antt`).
+-- other is refused for its first fault: in full in `xcf_walk_laws/specs/Map.antt`.
 abbrev pub ColourMapsAreTaken : Type 0
 ColourMapsAreTaken =
     (file : List ℕ) (lengthAt n at : ℕ) → MapRule file lengthAt n at (run (content imageList PropertyType.colourMap lengthAt n) file at)

@@ -83,8 +83,8 @@ impl Cursor {
             .cursor
             .check(count.value <= COLOUR_LIMIT, refusal::BAD_CONTENT, long.at);
         let right = few.check(map_length_ok(count.value, n), refusal::BAD_LENGTH, at);
-        let colours = 3 * (count.value as usize);
-        let next = right.skip(file, colours);
+        let size = 3 * (count.value as usize);
+        let next = right.skip(file, size);
         if next.number != 0 {
             return ContentRead {
                 content: Content {

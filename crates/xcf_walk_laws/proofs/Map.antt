@@ -3,10 +3,10 @@
 use Prim.Native.Nat.{ℕ, _+_, _*_, _≤_}
 use mathlib.Core.Path.{_≡_, refl, sym, ap, _∙_}
 use mathlib.Core.List.{List}
-use mathlib.Core.Logic.{_⊎_, inl, inr}
+use mathlib.Core.Logic.{inl, inr}
 use mathlib.Core.Bool.{Bool, true, false, cond, _||_, or-true}
 use native.Mathlib.Omega.{arith}
-use borrow.Author.Tests.{le-leb, leb-true, eq-eqb, ne-eqb, eqb-true}
+use borrow.Author.Tests.{le-leb, lt-leb, leb-true, eq-eqb, eqb-true}
 use lib.Dec.{leb, eqb}
 use lib.ListN.{length}
 use Rattle.xcf_numbers.specs.Limit.{colourLimit}
@@ -18,7 +18,7 @@ use Rattle.xcf_walk.specs.Walk.{Outcome, got, refused, Walk, run, here, must, b
 use Rattle.xcf_walk.specs.Fields.{number, word}
 use Rattle.xcf_walk.specs.Property.{colourMap, content}
 use Rattle.xcf_walk.proofs.Walks.{got-not-refused}
-use Rattle.xcf_walk_laws.specs.Map.{colours, MapLength, RightMap, CountedMap, MapRule}
+use Rattle.xcf_walk_laws.specs.Map.{colours, MapLength, RightMap, MapRule}
 
 run-must : {A : Type 0} (t : Bool) (n p : ℕ) (k : Unit {0} → Walk A) (f : List ℕ) (at : ℕ) → run (must t n p >>= k) f at ≡ cond t (run (k tt) f at) (refused n p)
 unfolding run must
@@ -94,15 +94,30 @@ module _ (f : List ℕ) (lengthAt n at : ℕ) where
       let t = decided-right (leb 4 n) (leb (at + 4) (length f)) (leb count colourLimit) (mapLengthOk count n) _ (sym map-run ∙ e) in
       record { few = leb-true _ _ (t .0); said = length-said _ _ (t .1); whole = leb-true _ _ (t .2) }
 
+  unfit-said : (MapLength count n → ⊥) → mapLengthOk count n ≡ false
+  unfit-said wrong = go (mapLengthOk count n) refl
+    where
+      go : (t : Bool) → mapLengthOk count n ≡ t → mapLengthOk count n ≡ false
+      go true e = absurd (wrong (length-said count n e))
+      go false e = e
+
   pub map-rule : MapRule f lengthAt n at (run (content imageList PropertyType.colourMap lengthAt n) f at)
   map-rule = record {
     taken = right;
     only = only-right;
-    otherwise = λ m wrong.
+    short = λ s. map-run ∙ rw (lt-leb 4 n s);
+    uncounted = λ l e. map-run ∙ rw (le-leb 4 n l, lt-leb (at + 4) (length f) e);
+    many = λ l t m. map-run ∙ rw (le-leb 4 n l, le-leb (at + 4) (length f) t, lt-leb count colourLimit m);
+    unfit = λ m wrong.
         map-run
-        ∙ rw (le-leb 4 n (m .least), le-leb (at + 4) (length f) (m .there), le-leb count colourLimit (m .few), not-ok (mapLengthOk count n) refl wrong);
+        ∙ rw (le-leb 4 n (m .least), le-leb (at + 4) (length f) (m .there), le-leb count colourLimit (m .few), unfit-said wrong);
+    cut = λ m said e.
+        map-run
+        ∙ rw (
+          le-leb 4 n (m .least),
+          le-leb (at + 4) (length f) (m .there),
+          le-leb count colourLimit (m .few),
+          length-ok count n said,
+          lt-leb (at + 4 + 3 * count) (length f) e,
+        );
   }
-    where
-      not-ok : (t : Bool) → mapLengthOk count n ≡ t → (MapLength count n → ⊥) → mapLengthOk count n ≡ false
-      not-ok true e wrong = absurd (wrong (length-said count n e))
-      not-ok false e wrong = e

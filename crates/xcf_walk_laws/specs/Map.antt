@@ -1,5 +1,5 @@
--- The image's colour map: which maps are taken, what they take, and what any other length is.
-use Prim.Native.Nat.{ℕ, _+_, _*_, _≤_}
+-- The image's colour map: which maps are taken, what they take, and what becomes of the others.
+use Prim.Native.Nat.{ℕ, _+_, _*_, _≤_, _<_}
 use mathlib.Core.Path.{_≡_}
 use mathlib.Core.List.{List}
 use mathlib.Core.Logic.{_⊎_}
@@ -24,15 +24,19 @@ pub record RightMap (file : List ℕ) (n at : ℕ) : Type 0 where
   pub said : MapLength (colours file at) n
   pub whole : at + 4 + 3 * colours file at ≤ length file
 
--- one of which nothing is wrong up to its length
+-- one of which nothing is wrong up to its count
 pub record CountedMap (file : List ℕ) (n at : ℕ) : Type 0 where
   pub least : 4 ≤ n
   pub there : at + 4 ≤ length file
   pub few : colours file at ≤ colourLimit
 
--- what becomes of the map, whose length word stands at lengthAt: a right one is taken with all its bytes, whichever its length, no
--- other one is taken, and another length is refused
+-- what becomes of the map, whose length word stands at lengthAt: a right one is taken with all its bytes, whichever its length, and no
+-- other is; the rest are its faults, of which the first counts
 pub record MapRule (file : List ℕ) (lengthAt n at : ℕ) (o : Outcome Content) : Type 0 where
   pub taken : RightMap file n at → o ≡ got (record { first = colours file at; second = 0 }) (at + 4 + 3 * colours file at)
   pub only : (c : Content) (q : ℕ) → o ≡ got c q → RightMap file n at
-  pub otherwise : CountedMap file n at → (MapLength (colours file at) n → ⊥) → o ≡ refused Refusal.badLength lengthAt
+  pub short : n < 4 → o ≡ refused Refusal.badLength lengthAt
+  pub uncounted : 4 ≤ n → length file < at + 4 → o ≡ refused Refusal.pastEnd at
+  pub many : 4 ≤ n → at + 4 ≤ length file → colourLimit < colours file at → o ≡ refused Refusal.badContent at
+  pub unfit : CountedMap file n at → (MapLength (colours file at) n → ⊥) → o ≡ refused Refusal.badLength lengthAt
+  pub cut : CountedMap file n at → MapLength (colours file at) n → length file < at + 4 + 3 * colours file at → o ≡ refused Refusal.pastEnd (at + 4)

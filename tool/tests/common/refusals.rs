@@ -43,7 +43,7 @@ const ALTERED: [(usize, u8, &str); 13] = [
     (
         33,
         4,
-        "refused 6 at 30: the length of a property does not fit its type (a colour map of n colours may say 3n + 4 or n + 4)",
+        "refused 6 at 30: the length of a property does not fit its type (that of a colour map of n colours is 3n + 4 or n + 4)",
     ),
     (
         34,

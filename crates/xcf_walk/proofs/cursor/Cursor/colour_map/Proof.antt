@@ -43,11 +43,11 @@ map-length-ok-requires c κs = search needs
 check-requires-3 : tie.Need-check-requires-3
 check-requires-3 c κs = search needs
 
-cast-colours : tie.Need-cast-colours
-cast-colours c = search needs
+cast-size : tie.Need-cast-size
+cast-size c = search needs
 
-mul-colours : tie.Need-mul-colours
-mul-colours c = search needs
+mul-size : tie.Need-mul-size
+mul-size c = search needs
 
 skip-requires : tie.Need-skip-requires
 skip-requires c κs = search needs
@@ -67,8 +67,8 @@ colour-map-spec =
     check-requires-2
     map-length-ok-requires
     check-requires-3
-    cast-colours
-    mul-colours
+    cast-size
+    mul-size
     skip-requires
     returns
     returns-2)
