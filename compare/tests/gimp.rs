@@ -240,8 +240,9 @@ fn old_length_of_a_colour_map() {
     assert_eq!(difference(&old.table, &whole.table), None);
     assert_listed(&old, |_| 0);
     for row in 0..whole.rows().len() {
-        assert!(old.decode(row) == whole.decode(row), "row {row}");
-        assert_eq!(difference(&old.decode(row).0, &whole.exported(row)), None);
+        let decoded = old.decode(row);
+        assert!(decoded == whole.decode(row), "row {row}");
+        assert_eq!(difference(&decoded.0, &whole.exported(row)), None);
     }
 }
 

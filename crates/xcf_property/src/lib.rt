@@ -124,11 +124,7 @@ pub fn content_of(file: &[u8], place: usize, n: usize) -> Content
 pub fn is_colour_map(list: u32, kind: u32) -> bool
     ensures { λ r. ⌜ r ≡ isColourMap list kind ⌝ }
 {
-    if list == IMAGE_LIST {
-        kind == property_type::COLOUR_MAP
-    } else {
-        false
-    }
+    (list == IMAGE_LIST) & (kind == property_type::COLOUR_MAP)
 }
 
 // Whether a map of count colours may have a length word of n.
@@ -143,21 +139,13 @@ pub fn map_length_ok(count: u32, n: u32) -> bool
 pub fn is_floating(list: u32, kind: u32) -> bool
     ensures { λ r. ⌜ r ≡ isFloating list kind ⌝ }
 {
-    if list == LAYER_LIST {
-        kind == property_type::FLOATING
-    } else {
-        false
-    }
+    (list == LAYER_LIST) & (kind == property_type::FLOATING)
 }
 
 pub fn lacks_map(kind: u32, p: Properties) -> bool
     ensures { λ r. ⌜ r ≡ lacksMap kind p ⌝ }
 {
-    if kind == property_type::END {
-        p.unmapped == 1
-    } else {
-        false
-    }
+    (kind == property_type::END) & (p.unmapped == 1)
 }
 
 fn allowed_in_image(kind: u32, v: u32) -> bool
