@@ -19,6 +19,10 @@ active = 8
 abbrev pub group : ℕ
 group = 16
 
+-- the name is not well-formed UTF-8
+abbrev pub notUtf8 : ℕ
+notUtf8 = 32
+
 -- a flag as a number: 1 where it is set, else 0
 abbrev pub flagOf : ℕ → ℕ → ℕ
 flagOf flags bit = flags / bit % 2

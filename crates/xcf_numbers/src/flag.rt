@@ -13,6 +13,9 @@ pub const ACTIVE: u32 = 8;
 
 pub const GROUP: u32 = 16;
 
+// The name is not well-formed UTF-8.
+pub const NOT_UTF8: u32 = 32;
+
 // A flag as a number: 1 where it is set, else 0.
 pub fn flag_of(flags: u32, bit: u32) -> u32
     ensures { λ r. ⌜ r ≡ flagOf flags bit ⌝ }

@@ -103,6 +103,7 @@ impl Fields {
             name: Name {
                 place: 0,
                 length: 0,
+                utf8: true,
             },
             list: 0,
             properties,

@@ -1,5 +1,5 @@
--- What acceptance says of the rows: each has sides and a depth in range and the count of its sides, the walk over its tile
--- pointers was taken, and it passed over structure bytes. Along the image's walk: each structure adds such rows behind such rows.
+-- What acceptance says of the rows: each has sides and a depth in range and the count of its sides, its flag is that of its name, the
+-- walk over its tile pointers was taken, and it passed over structure bytes. Along the image's walk: each structure adds such rows behind such rows.
 -- Assumes nothing.
 use Prim.Native.Nat.{ℕ, zero, suc, _+_, _*_, _≤_, _<_}
 use mathlib.Core.Path.{_≡_, refl}
@@ -14,6 +14,7 @@ use Rattle.xcf_laws.proofs.Cases.{below-or}
 use Rattle.xcf_walk.proofs.Walks.{parted, got-done}
 use Rattle.xcf_walk.proofs.Straight.{Straight, straight-bind, straight-here, straight-length, straight-number, straight-must, all-passed, passed-first}
 use Rattle.xcf_table.specs.declared.Row.{Row}
+use Rattle.xcf_table.specs.Name.{Told}
 use Rattle.xcf_table.specs.Table.{rowNumbers, rowIn, Rows, noRows, addRow}
 use Rattle.xcf_table.proofs.Rows.{row-in-front, row-added}
 use Rattle.xcf_grid.specs.Grid.{tileCount}
@@ -25,7 +26,8 @@ use Rattle.xcf_walk.specs.Pointers.{tiles}
 use Rattle.xcf_row.specs.Row.{channelRow, maskOwner, layerRow, channelOwner}
 use Rattle.xcf_read.specs.Drawable.{channelRows, maskRows, layerRows, canvasChannelRows}
 use Rattle.xcf_read.specs.Image.{drawables, Image, image, structureByte}
-use Rattle.xcf_walk_laws.proofs.Ensures.{Ensures, ensures-done, ensures-weaken, ensures-bind, ensures-next, ensures-cond}
+use Rattle.xcf_walk_laws.proofs.Ensures.{Ensures, ensures-done, ensures-weaken, ensures-both, ensures-bind, ensures-next, ensures-cond}
+use Rattle.xcf_read_laws.proofs.Names.{layer-told, channel-told, ensures-layer-name, ensures-channel-name}
 use Rattle.xcf_read_laws.proofs.Ranges.{Side, Depth, ensures-layer, ensures-channel, ensures-head, ensures-pointers}
 
 -- the walk over so many tile pointers of `size` bytes was taken at their place, over bytes in S
@@ -40,6 +42,7 @@ pub record RowRead (size : ℕ) (f : List ℕ) (structure : ℕ → Type 0) (r :
   pub height : (1 ≤ r .height) × (r .height ≤ sideLimit)
   pub depth : (1 ≤ r .depth) × (r .depth ≤ depthLimit)
   pub count : r .count ≡ tileCount (r .width) (r .height)
+  pub told : Told f r
   pub tiles : PointersRead size f structure (r .count) (r .pointers)
 
 pub record ImageRead (size : ℕ) (f : List ℕ) (x : Image) : Type 0 where
@@ -84,8 +87,8 @@ module _ {size : ℕ} {f : List ℕ} {S : ℕ → Type 0} where
 
   -- a drawable's row, from its numbers and its tiles
   row-read : {r : Row} → (1 ≤ r .kind) × (r .kind ≤ 3) → Side (r .width) → Side (r .height) → Depth (r .depth) → r .count ≡ tileCount (r .width) (r .height)
-      → PointersRead size f S (tileCount (r .width) (r .height)) (r .pointers) → RowRead size f S r
-  row-read k w h d e t = record { kind = k; width = w; height = h; depth = d; count = e; tiles = rw e t }
+      → Told f r → PointersRead size f S (tileCount (r .width) (r .height)) (r .pointers) → RowRead size f S r
+  row-read k w h d e n t = record { kind = k; width = w; height = h; depth = d; count = e; told = n; tiles = rw e t }
 
   -- what a hierarchy ends with
   ensures-tiles : (count : ℕ) → Ensures f S (PointersRead size f S count) (here >>= λ place. tiles size count 0 >>= λ _. done place)
@@ -112,8 +115,9 @@ module _ {size : ℕ} {f : List ℕ} {S : ℕ → Type 0} where
       → Ensures f S (RowsRead size f S (most + 1)) (channelRows size o rows)
   unfolding channelRows channelRow
   ensures-channel-rows o k x =
-      ensures-bind _ (ensures-channel size o) λ c s. ensures-next (jump _) _ λ _. ensures-bind _ (ensures-hierarchy _ _ 1) λ place t.
-      ensures-done (row-read-added x (row-read k (s .0) (s .1) (omega arith) refl t))
+      ensures-bind _ (ensures-both (ensures-channel size o) (ensures-channel-name size o)) λ c s.
+      ensures-next (jump _) _ λ _. ensures-bind _ (ensures-hierarchy _ _ 1) λ place t.
+      ensures-done (row-read-added x (row-read k (s .0 .0) (s .0 .1) (omega arith) refl (channel-told f o c place (s .1)) t))
 
   ensures-mask-rows : {most : ℕ} {rows : Rows} (l : Layer) (k : ℕ) → RowsRead size f S most rows → Ensures f S (RowsRead size f S (most + 1)) (maskRows size l k rows)
   unfolding maskRows maskOwner
@@ -122,9 +126,11 @@ module _ {size : ℕ} {f : List ℕ} {S : ℕ → Type 0} where
 
   ensures-layer-rows : {most : ℕ} {rows : Rows} (c : Canvas) → RowsRead size f S most rows → Ensures f S (RowsRead size f S (most + 2)) (layerRows size c rows)
   unfolding layerRows layerRow
-  ensures-layer-rows c x =
-      ensures-bind _ (ensures-layer size _) λ l s. ensures-next (jump _) _ λ _. ensures-bind _ (ensures-hierarchy _ _ _) λ place t.
-      ensures-weaken (λ _. more-rows-read (omega arith)) (ensures-mask-rows l _ (row-read-added x (row-read (omega arith) (s .width) (s .height) (s .depth) refl t)))
+  ensures-layer-rows {rows = rows} c x =
+      ensures-bind _ (ensures-both (ensures-layer size _) (ensures-layer-name size _)) λ l s.
+      ensures-next (jump _) _ λ _. ensures-bind _ (ensures-hierarchy _ _ _) λ place t.
+      let row = row-read (omega arith) (s .0 .width) (s .0 .height) (s .0 .depth) refl (layer-told f l place (rows .count) (s .1)) t in
+      ensures-weaken (λ _. more-rows-read (omega arith)) (ensures-mask-rows l _ (row-read-added x row))
 
   -- drawables that each add at most so many rows
   ensures-drawables : (one : Rows → Walk Rows) (step all : ℕ) → ((n : ℕ) (rows : Rows) → RowsRead size f S n rows → Ensures f S (RowsRead size f S (n + step)) (one rows))

@@ -19,12 +19,14 @@ use Rattle.xcf_table.specs.declared.Row.{Row}
 use Rattle.xcf_table.specs.Table.{Rows, addRow}
 use Rattle.xcf_laws.proofs.Cases.{by-cases}
 use Rattle.xcf_table.specs.declared.canvas.Canvas.{Canvas}
+use Rattle.xcf_utf8.specs.Utf8.{wellFormed}
+use Rattle.xcf_walk.specs.declared.cursor.Name.{Name}
 use Rattle.xcf_parse.specs.declared.drawable.Layer.{Layer}
 use Rattle.xcf_parse.specs.Hierarchy.{hierarchy}
 use Rattle.xcf_table.specs.Canvas.{depthOf}
-use Rattle.xcf_row.specs.Row.{flag, layerFlags, channelFlags, layerRow, channelRow, maskOwner, channelOwner}
+use Rattle.xcf_row.specs.Row.{flag, nameFlag, layerFlags, channelFlags, layerRow, channelRow, maskOwner, channelOwner}
 use Rattle.xcf_read.specs.Drawable.{channelRows, maskRows, layerRows, canvasChannelRows}
-use Rattle.xcf_usable.specs.Usable.{visible, apply, selection, active}
+use Rattle.xcf_usable.specs.Usable.{visible, apply, selection, active, notUtf8}
 use Rattle.xcf_usable.proofs.RowFacts.{LayerFacts, ChannelFacts, MaskFacts, CanvasFacts}
 use Rattle.xcf_structure.specs.Structure.{structureBytes}
 use Rattle.xcf_drawable.specs.Drawable.{Drawable, tilesOf, drawableSize, drawableBytes}
@@ -75,32 +77,50 @@ applied : (hasMask : Bool) (place v : ℕ) → 0 < place → (hasMask ≡ false 
 applied true place v some none = rw (ne-eqb place 0 (λ e. omega arith))
 applied false place v some none = sym (none refl)
 
-layer-flags : {c : Canvas} {k : ℕ} (r : Row) (hasMask : Bool) (place : ℕ) → LayerFacts c k r hasMask → 0 < place
-    → layerFlags (propertiesOf r hasMask) (cond hasMask place 0) ≡ r .flags
+-- the flag of a name that the row tells
+name-flag : (r : Row) (name : Name) → notUtf8 r ≡ cond (name .utf8) 0 1 → nameFlag name ≡ notUtf8 r * Flag.notUtf8
+unfolding nameFlag
+name-flag r name told = rw told (go (name .utf8))
+  where
+    go : (t : Bool) → cond t 0 Flag.notUtf8 ≡ cond t 0 1 * Flag.notUtf8
+    go true = refl
+    go false = refl
+
+layer-flags : {c : Canvas} {k : ℕ} (r : Row) (hasMask : Bool) (name : Name) (place : ℕ) → LayerFacts c k r hasMask
+    → notUtf8 r ≡ cond (name .utf8) 0 1 → 0 < place
+    → layerFlags (propertiesOf r hasMask) (cond hasMask place 0) name ≡ r .flags
 unfolding layerFlags
-layer-flags r hasMask place facts some =
+layer-flags r hasMask name place facts told some =
     let seen = flag-of (visible r) Flag.visible (omega arith) in
     let used = flag-of (apply r) Flag.apply (omega arith) in
     let chosen = flag-of (active r) Flag.active (omega arith) in
     let group = flag-of 0 Flag.group (omega arith) in
+    let named = name-flag r name told in
     rw (applied hasMask place (apply r) some (facts .applied)) (omega (arith, facts .flags))
 
-channel-flags : (r : Row) (hasMask : Bool) → ChannelFacts r → channelFlags (propertiesOf r hasMask) ≡ r .flags
+channel-flags : (r : Row) (hasMask : Bool) (name : Name) → ChannelFacts r → notUtf8 r ≡ cond (name .utf8) 0 1
+    → channelFlags (propertiesOf r hasMask) name ≡ r .flags
 unfolding channelFlags
-channel-flags r hasMask facts =
+channel-flags r hasMask name facts told =
     let seen = flag-of (visible r) Flag.visible (omega arith) in
     let selected = flag-of (selection r) Flag.selection (omega arith) in
     let chosen = flag-of (active r) Flag.active (omega arith) in
+    let named = name-flag r name told in
     omega (arith, facts .flags)
+
+-- a drawable's name as it is read
+abbrev nameAt : Drawable → ℕ → Name
+nameAt d p = fieldsOf d (p + sidesSize (d .row)) (hierarchyAt d p) .name
 
 -- a drawable that is a layer
 abbrev layerAt : Drawable → ℕ → Layer
 layerAt d p = layerOf d p (hierarchyAt d p) (maskAt d p)
 
--- a drawable that can be written, and whose list of properties can be read
+-- a drawable that can be written, whose list of properties can be read, and whose flag tells what its name is
 pub record Readable (d : Drawable) : Type 0 where
   pub writable : Writable d
   pub listed : Listed (d .row)
+  pub told : notUtf8 (d .row) ≡ cond (wellFormed (d .name)) 0 1
 
 module _ {f : List ℕ} {p : ℕ} (d : Drawable) (x : Readable d) (small : length f ≤ fileLimit) (some : 0 < p)
     (s : Stands f p (drawableBytes d p)) where
@@ -131,7 +151,7 @@ module _ {f : List ℕ} {p : ℕ} (d : Drawable) (x : Readable d) (small : lengt
     channel-row : channelRow (ownerOf (d .row)) (fieldsOf d (p + sidesSize (d .row)) (hierarchyAt d p)) (levelAt d p + 8)
         ≡ readRow d p
     unfolding channelRow readRow
-    channel-row = rw (channel-flags (d .row) (d .hasMask) facts, facts .depth, facts .form, facts .mode, w .drawn .range .count, w .named)
+    channel-row = rw (channel-flags (d .row) (d .hasMask) (nameAt d p) facts (x .told), facts .depth, facts .form, facts .mode, w .drawn .range .count, w .named)
 
     reads-owned : (rows : Rows) → Gives (channelRows pointerSize (ownerOf (d .row)) rows) f p (addRow rows (readRow d p))
     unfolding channelRows
@@ -148,7 +168,7 @@ module _ {f : List ℕ} {p : ℕ} (d : Drawable) (x : Readable d) (small : lengt
     layer-row : layerRow (layerAt d p) (levelAt d p + 8) (rows .count) ≡ readRow d p
     unfolding layerRow readRow
     layer-row =
-        let flags = layer-flags (d .row) (d .hasMask) (p + drawableSize d) facts (omega arith) in
+        let flags = layer-flags (d .row) (d .hasMask) (nameAt d p) (p + drawableSize d) facts (x .told) (omega arith) in
         rw (flags, facts .kind, facts .depth, facts .owner, w .drawn .range .count, w .named)
 
     reads-layered : {all : Rows} → ((q : ℕ) → Gives (maskRows pointerSize (layerAt d p) (rows .count) (addRow rows (readRow d p))) f q all)

@@ -154,17 +154,17 @@ places-counted table names kind n p pixels =
     ∙ rw (rows-are table names n 0 pixels) (simp zero-add at (kinds-from table kind n 0))
 
 module _ (c : Canvas) (table names pixels : List ℕ) (low : (i : ℕ) → getD table i 0 < 4294967296)
-    (a : InputAccepted c table (length names) (length pixels)) where
+    (a : InputAccepted c table names (length pixels)) where
   abbrev kind : ℕ → ℕ
   kind k = rowAt table k .kind
 
-  all : (k : ℕ) → k < tableRows → usable c (length names) table k ≡ true
-  all = all-usable c (length names) table (a .usable)
+  all : (k : ℕ) → k < tableRows → usable c names table k ≡ true
+  all = all-usable c names table (a .usable)
 
   in-table : {k : ℕ} → k < usedRows table → k < tableRows
   in-table h = omega (arith, used-most table)
 
-  used-usable : {k : ℕ} → k < usedRows table → usable c (length names) table k ≡ true
+  used-usable : {k : ℕ} → k < usedRows table → usable c names table k ≡ true
   used-usable {k} h = all k (in-table h)
 
   -- each is readable
@@ -184,11 +184,12 @@ module _ (c : Canvas) (table names pixels : List ℕ) (low : (i : ℕ) → getD 
               short = rows .short k h;
             });
         listed = record {
-          opaque = used-facts c (length names) table (a .usable) k h .opaque;
+          opaque = used-facts c names table (a .usable) k h .opaque;
           mode = rw there (low _);
           dx = rw there (low _);
           dy = rw there (low _);
         };
+        told = used-facts c names table (a .usable) k h .told;
       }
 
   pub drawables-readable : AllReadable (usedDrawables table names pixels)
@@ -202,24 +203,24 @@ module _ (c : Canvas) (table names pixels : List ℕ) (low : (i : ℕ) → getD 
       → (length (placesOf Kind.layer (usedDrawables table names pixels) p) ≤ layerLimit)
       × (length (placesOf Kind.channel (usedDrawables table names pixels) p) ≤ channelLimit)
   places-few p = (
-    rw (places-counted table names 1 (usedRows table) p pixels) (few-layers c (length names) table all _ (used-most table)),
-    rw (places-counted table names 3 (usedRows table) p pixels) (few-channels c (length names) table all _ (used-most table)),
+    rw (places-counted table names 1 (usedRows table) p pixels) (few-layers c names table all _ (used-most table)),
+    rw (places-counted table names 3 (usedRows table) p pixels) (few-channels c names table all _ (used-most table)),
   )
 
   -- a mask behind its layer, and what is not a layer
   mask-there : (k : ℕ) → kind (k + 1) ≡ 2 → MaskFacts (k + 1) (rowAt table k) (rowAt table (k + 1))
   mask-there k e =
-      mask-behind c (length names) table all k (row-inside table (a .size) (k + 1) (λ z. absurd (omega arith))) e
+      mask-behind c names table all k (row-inside table (a .size) (k + 1) (λ z. absurd (omega arith))) e
 
   numbers : {k : ℕ} → k < usedRows table → (kind k ≡ 1 → ⊥) → ChannelFacts (rowAt table k)
-  numbers {k} h e = channel-facts c (length names) table k (used-usable h) (used-kind table k h) e
+  numbers {k} h e = channel-facts c names table k (used-usable h) (used-kind table k h) e
 
   layer-at : {k : ℕ} → k < usedRows table → kind k ≡ 1 → LayerFacts c k (rowAt table k) (masked table k)
-  layer-at {k} h e = layer-facts c (length names) table k (used-usable h) e
+  layer-at {k} h e = layer-facts c names table k (used-usable h) e
 
   channel-next : (k : ℕ) → k + 1 < usedRows table → kind k ≡ 3 → kind (k + 1) ≡ 3
   channel-next k h e =
-      ⊎-elim (λ z. absurd (used-kind table (k + 1) h z)) (λ is. is) (after-channel c (length names) table all k (in-table h) e)
+      ⊎-elim (λ z. absurd (used-kind table (k + 1) h z)) (λ is. is) (after-channel c names table all k (in-table h) e)
 
   -- whatever their pixels
   channels-from : (n k : ℕ) (ps : List ℕ) → k + n ≡ usedRows table → (0 < n → kind k ≡ 3)
@@ -230,7 +231,7 @@ module _ (c : Canvas) (table names pixels : List ℕ) (low : (i : ℕ) → getD 
       let is : kind k ≡ 3 = h (omega arith) in
       let used : k < usedRows table = omega arith in
       channel
-      (canvas-facts c (length names) table k (used-usable used) is)
+      (canvas-facts c names table k (used-usable used) is)
       (numbers used (λ z. absurd (omega arith)))
       (channels-from n (k + 1) _ (omega arith) (λ some. channel-next k (omega arith) is))
 
@@ -249,7 +250,7 @@ module _ (c : Canvas) (table names pixels : List ℕ) (low : (i : ℕ) → getD 
       ⊎-elim
       (λ is. layer (layer-at used is) m (rest (eqb-false _ _ (sym (masked-is table k (in-table used)) ∙ m))))
       (λ is. channels (channels-from (suc n) k ps e (λ _. is)))
-      (layer-or-channel (kind k) (kind-listed c (length names) table k (used-usable used)) (used-kind table k used) h)
+      (layer-or-channel (kind k) (kind-listed c names table k (used-usable used)) (used-kind table k used) h)
 
   ordered-two : (n k : ℕ) (ps : List ℕ) → k + suc (suc n) ≡ usedRows table → masked table k ≡ true
       → OrderedFrom n (k + 1 + 1) (behind (k + 1) (behind k ps)) → OrderedFrom (suc (suc n)) k ps
@@ -277,4 +278,4 @@ module _ (c : Canvas) (table names pixels : List ℕ) (low : (i : ℕ) → getD 
       go true m one two = ordered-two n k ps e m two
 
   pub drawables-ordered : Ordered c 0 (usedDrawables table names pixels)
-  drawables-ordered = ordered-from (usedRows table) 0 pixels (zero-add _) (first-not-mask c (length names) table all)
+  drawables-ordered = ordered-from (usedRows table) 0 pixels (zero-add _) (first-not-mask c names table all)

@@ -26,7 +26,7 @@ use Rattle.xcf_round_trip.proofs.RowsShown.{Shown}
 use Rattle.xcf_round_trip.proofs.ImageTaken.{ensures-taken}
 use Rattle.xcf_round_trip.proofs.NoneBad.{none-bad}
 
-module _ (file table : List ℕ) (names : ℕ) (x : Image) (q : ℕ) (walked : got x q ≡ run (image pointerSize) file 0)
+module _ (file table names : List ℕ) (x : Image) (q : ℕ) (walked : got x q ≡ run (image pointerSize) file 0)
     (same : (k : ℕ) → k < tableRows → Like (rowAt table k) (rowAt (tableOf (x .rows)) k))
     (excepted : (k : ℕ) → k < tableRows → RowExcepted names (rowAt table k))
     (unnamed : (k : ℕ) → k < tableRows → rowAt table k .kind ≡ Kind.unused → rowAt table k .name ≡ 0) (once : RowsExcepted table) where

@@ -166,7 +166,7 @@ module _ (c : Canvas) (table names pixels : List ℕ) where
       rw (drawable-at table names d (usedRows table) k pixels h) at
       (drawable-stands ds start d k drawables-stand (rw rows-length h))
 
-  pub image-read : ((i : ℕ) → getD table i 0 < 4294967296) → InputAccepted c table (length names) (length pixels)
+  pub image-read : ((i : ℕ) → getD table i 0 < 4294967296) → InputAccepted c table names (length pixels)
       → length file ≤ fileLimit
       → Gives (image pointerSize) file 0 (record { head = headOf c version; rows = addAll noRows ds start })
   unfolding image canvasOf

@@ -41,14 +41,14 @@ ensures-drawables P one most h (p ∷ ps) n le x =
     ensures-next (jump p) _ λ _. ensures-bind _ (h n _ (omega arith) x) λ next y.
     ensures-drawables P one most h ps (n + 1) (omega arith) y
 
-none-taken : (c : Canvas) (names : ℕ) (table : List ℕ) → RowsTaken c names table 0 0 noRows
+none-taken : (c : Canvas) (names table : List ℕ) → RowsTaken c names table 0 0 noRows
 none-taken c names table = record { size = refl; taken = λ _. taken-none c names table }
 
 -- an image's rows are usable where the table shows them
-abbrev pub ImageTaken : ℕ → List ℕ → Image → Type 0
+abbrev pub ImageTaken : List ℕ → List ℕ → Image → Type 0
 ImageTaken names table x = Shown table (x .rows) → (k : ℕ) → k < x .rows .count → usable (canvasOf (x .head)) names table k ≡ true
 
-module _ (size : ℕ) (names : ℕ) (table : List ℕ) (excepted : (k : ℕ) → k < tableRows → RowExcepted names (rowAt table k))
+module _ (size : ℕ) (names table : List ℕ) (excepted : (k : ℕ) → k < tableRows → RowExcepted names (rowAt table k))
     (once : RowsExcepted table) {f : List ℕ} {S : ℕ → Type 0} where
   module _ (c : Canvas) where
     channel-rows : (l m : ℕ) (rows : Rows) → m < channelLimit → RowsTaken c names table l m rows

@@ -10,7 +10,7 @@ use Rattle.xcf_numbers.specs.Limit.{tableRows}
 use Rattle.xcf_table.specs.declared.canvas.Canvas.{Canvas}
 use Rattle.xcf_usable.specs.Usable.{usable, badFrom, badRow}
 
-module _ (c : Canvas) (names : ℕ) (table : List ℕ) (all : (k : ℕ) → k < tableRows → usable c names table k ≡ true) where
+module _ (c : Canvas) (names table : List ℕ) (all : (k : ℕ) → k < tableRows → usable c names table k ≡ true) where
   none-from : (n k : ℕ) → k + n ≡ tableRows → badFrom c names table n k ≡ tableRows
   unfolding badFrom
   none-from zero k e = rw add-zero at e

@@ -49,7 +49,7 @@ unfolding readRow
 row-placed d p e = rw e
 
 -- an unused row that is usable is zero
-unused-zero : (c : Canvas) (names : ℕ) (table : List ℕ) (k : ℕ) → usable c names table k ≡ true
+unused-zero : (c : Canvas) (names table : List ℕ) (k : ℕ) → usable c names table k ≡ true
     → rowAt table k .kind ≡ Kind.unused → rowAt table k ≡ unusedRow
 unused-zero c names table k ok e = go (row-use c names table k ok)
   where
@@ -61,10 +61,10 @@ unused-zero c names table k ok e = go (row-use c names table k ok)
 
 -- the file of an accepted input
 module _ (c : Canvas) (table names pixels lent : List ℕ) (low : (i : ℕ) → getD table i 0 < 4294967296)
-    (size : length lent ≡ tableSize) (a : InputAccepted c table (length names) (length pixels))
+    (size : length lent ≡ tableSize) (a : InputAccepted c table names (length pixels))
     (small : length (fileOf c table names pixels) ≤ fileLimit) where
-  all : (k : ℕ) → k < tableRows → usable c (length names) table k ≡ true
-  all = all-usable c (length names) table (a .usable)
+  all : (k : ℕ) → k < tableRows → usable c names table k ≡ true
+  all = all-usable c names table (a .usable)
 
   abbrev ds : List Drawable
   ds = usedDrawables table names pixels
@@ -111,13 +111,13 @@ module _ (c : Canvas) (table names pixels lent : List ℕ) (low : (i : ℕ) → 
   unused-behind zero h = rw add-zero (used-end table (a .size))
   unused-behind (suc n) h =
       let e : usedRows table + suc n ≡ usedRows table + n + 1 = omega arith in
-      rw e (after-unused c (length names) table all (usedRows table + n) (omega arith) (unused-behind n (omega arith)))
+      rw e (after-unused c names table all (usedRows table + n) (omega arith) (unused-behind n (omega arith)))
 
   row-unused : (k : ℕ) → usedRows table ≤ k → k < tableRows → rowAt table k ≡ unusedRow
   row-unused k h l =
       let e : k ≡ usedRows table + (k - usedRows table) = omega arith in
       let zero : rowAt table k .kind ≡ Kind.unused = rw e (unused-behind (k - usedRows table) (omega arith)) in
-      unused-zero c (length names) table k (all k l) zero
+      unused-zero c names table k (all k l) zero
 
   unused-back : (k : ℕ) → usedRows table ≤ k → k < tableRows
       → (rowAt (reading file lent .table) k ≡ unusedRow) × (rowAt table k ≡ unusedRow)
@@ -138,7 +138,7 @@ module _ (c : Canvas) (table names pixels lent : List ℕ) (low : (i : ℕ) → 
         marks = replicate (rowAt table k .count) 0;
       }
   row-decoded k h buffer marks fit =
-      let listed = kind-listed c (length names) table k (all k (omega (arith, used-most table))) in
+      let listed = kind-listed c names table k (all k (omega (arith, used-most table))) in
       let kind : (1 ≤ rowAt table k .kind) × (rowAt table k .kind ≤ 3) = (omega (arith, used-kind table k h), listed) in
       drawable-decoded (drawable k) (place k) file _ k buffer marks (writable k h) kind small
       (row-place-some c table names pixels k) (stands k h) (rw table-read (table-length ds start few)) (row-read k h) fit

@@ -4,6 +4,7 @@
 -- Assumes nothing.
 use Prim.Native.Nat.{ℕ, _+_}
 use mathlib.Core.Path.{_≡_, refl, sym, subst, _∙_}
+use mathlib.Core.List.{List}
 use mathlib.Core.Bool.{Bool, true, false}
 use native.Mathlib.Omega.{arith}
 use Rattle.xcf_table.specs.declared.Row.{Row}
@@ -27,7 +28,7 @@ Like r s = r ≡ withPlaces s (r .name) (r .list) (r .pointers)
 like-says : (P : Row → Type 0) {r : Row} (s : Row) → Like r s → P (withPlaces s (r .name) (r .list) (r .pointers)) → P r
 like-says P s e = subst P (sym e)
 
-module _ (names : ℕ) (r : Row) (excepted : RowExcepted names r) where
+module _ (names : List ℕ) (r : Row) (excepted : RowExcepted names r) where
   module _ (x : Layer) (tiles k : ℕ) (like : Like r (layerRow x tiles k)) (c : Canvas) (given : LayerGiven (c .base) x) where
     pub layer-drawn : DrawableFacts names r
     unfolding layerRow
@@ -40,6 +41,7 @@ module _ (names : ℕ) (r : Row) (excepted : RowExcepted names r) where
           opaque = given .opaque;
           short = a .short;
           named = a .named;
+          told = a .told;
           list = a .list;
           pointers = a .pointers;
           deep = given .range .depth;
@@ -56,8 +58,8 @@ module _ (names : ℕ) (r : Row) (excepted : RowExcepted names r) where
           depth = refl;
           mode = a .mode;
           owner = refl;
-          flags = layer-flags (x .fields .properties) (x .mask) (a .ungrouped);
-          applied = λ none. unmasked-flags (x .fields .properties) (x .mask) (alone none);
+          flags = layer-flags (x .fields .properties) (x .fields .name) (x .mask) (a .ungrouped);
+          applied = λ none. unmasked-flags (x .fields .properties) (x .fields .name) (x .mask) (alone none);
         })
 
   module _ (o : Owner) (y : Fields) (tiles : ℕ) (like : Like r (channelRow o y tiles)) where
@@ -72,6 +74,7 @@ module _ (names : ℕ) (r : Row) (excepted : RowExcepted names r) where
           opaque = given .opaque;
           short = a .short;
           named = a .named;
+          told = a .told;
           list = a .list;
           pointers = a .pointers;
           deep = omega arith;
@@ -81,7 +84,7 @@ pub channel-fits : (r : Row) (o : Owner) (y : Fields) (tiles : ℕ) → Like r (
 unfolding channelRow
 channel-fits r o y tiles like =
     like-says ChannelFacts (channelRow o y tiles) like
-    (record { depth = refl; form = refl; mode = refl; flags = channel-flags (y .properties) })
+    (record { depth = refl; form = refl; mode = refl; flags = channel-flags (y .properties) (y .name) })
 
 pub mask-fits : (q r : Row) (x : Layer) (y : Fields) (tiles others k : ℕ) → Like q (layerRow x others k)
     → Like r (channelRow (maskOwner x k) y tiles) → MaskFacts (k + 1) q r
@@ -98,7 +101,7 @@ canvas-fits r c k y tiles like =
     like-says (CanvasFacts c k) (channelRow (channelOwner c k) y tiles) like
     (record { kind = refl; width = refl; height = refl; dx = refl; dy = refl; owner = refl })
 
-pub unused-fits : (names : ℕ) (r : Row) → RowExcepted names r → Like r unusedRow → r .name ≡ 0 → allZero (rowNumbers r) ≡ true
+pub unused-fits : (names : List ℕ) (r : Row) → RowExcepted names r → Like r unusedRow → r .name ≡ 0 → allZero (rowNumbers r) ≡ true
 unfolding allZero
 unused-fits names r excepted like unnamed =
     let e : r ≡ unusedRow = like ∙ rw (unnamed, excepted .list, excepted .pointers) in

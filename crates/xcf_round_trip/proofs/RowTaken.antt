@@ -27,17 +27,17 @@ use Rattle.xcf_round_trip.proofs.NoSecond.{no-seconds}
 use Rattle.xcf_round_trip.proofs.RowGiven.{Like, layer-drawn, layer-fits, channel-drawn, channel-fits, mask-fits, canvas-fits, unused-fits}
 
 -- the first n rows are taken: at most l layers and m channels, none unused
-pub record TakenTo (c : Canvas) (names : ℕ) (table : List ℕ) (l m n : ℕ) : Type 0 where
+pub record TakenTo (c : Canvas) (names table : List ℕ) (l m n : ℕ) : Type 0 where
   pub layers : countBefore isLayer table n ≤ l
   pub channels : countBefore isChannel table n ≤ m
   pub unused : countBefore isUnused table n ≡ 0
   pub rows : (k : ℕ) → k < n → usable c names table k ≡ true
 
-pub taken-none : (c : Canvas) (names : ℕ) (table : List ℕ) → TakenTo c names table 0 0 0
+pub taken-none : (c : Canvas) (names table : List ℕ) → TakenTo c names table 0 0 0
 unfolding countBefore
 taken-none c names table = record { layers = omega arith; channels = omega arith; unused = refl; rows = λ k h. absurd (omega arith) }
 
-module _ (c : Canvas) (names : ℕ) (table : List ℕ) (excepted : (k : ℕ) → k < tableRows → RowExcepted names (rowAt table k))
+module _ (c : Canvas) (names table : List ℕ) (excepted : (k : ℕ) → k < tableRows → RowExcepted names (rowAt table k))
     (once : RowsExcepted table) where
   use-taken : (n : ℕ) → n < tableRows → Use c names n (seenAt table n) (rowAt table n) (masked table n)
       → usable c names table n ≡ true

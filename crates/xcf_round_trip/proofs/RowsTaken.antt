@@ -22,11 +22,11 @@ use Rattle.xcf_round_trip.proofs.RowTaken.{TakenTo, layer-taken, mask-t
 use Rattle.xcf_round_trip.proofs.RowsShown.{Shown, added-size, shown-before, shown-last, shown-inside}
 
 -- whole rows that are taken where the table shows them
-pub record RowsTaken (c : Canvas) (names : ℕ) (table : List ℕ) (l m : ℕ) (rows : Rows) : Type 0 where
+pub record RowsTaken (c : Canvas) (names table : List ℕ) (l m : ℕ) (rows : Rows) : Type 0 where
   pub size : length (rows .numbers) ≡ rowSize * rows .count
   pub taken : Shown table rows → TakenTo c names table l m (rows .count)
 
-module _ (c : Canvas) (names : ℕ) (table : List ℕ) (excepted : (k : ℕ) → k < tableRows → RowExcepted names (rowAt table k))
+module _ (c : Canvas) (names table : List ℕ) (excepted : (k : ℕ) → k < tableRows → RowExcepted names (rowAt table k))
     (once : RowsExcepted table) where
   abbrev Taken : ℕ → ℕ → Rows → Type 0
   Taken = RowsTaken c names table

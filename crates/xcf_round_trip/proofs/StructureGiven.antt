@@ -7,10 +7,10 @@ use mathlib.Core.Bool.{true, false}
 use lib.Dec.{eqb}
 use Rattle.xcf_numbers.specs.Limit.{fullOpacity}
 use Rattle.xcf_numbers.specs.Refusal
-use Rattle.xcf_walk.specs.Walk.{Walk, here}
+use Rattle.xcf_walk.specs.Walk.{here}
 use Rattle.xcf_walk.specs.Fields.{number, word, string}
 use Rattle.xcf_property.specs.Property.{imageList, layerList}
-use Rattle.xcf_walk_laws.proofs.Ensures.{Ensures, ensures-done, ensures-must, ensures-bind, ensures-next}
+use Rattle.xcf_walk_laws.proofs.Ensures.{Ensures, ensures-done, ensures-must, ensures-weaken, ensures-both, ensures-bind, ensures-next}
 use Rattle.xcf_parse.specs.declared.drawable.Layer.{Layer}
 use Rattle.xcf_parse.specs.declared.drawable.Owner.{Owner}
 use Rattle.xcf_parse.specs.declared.drawable.Fields.{Fields}
@@ -31,11 +31,6 @@ pub record ChannelGiven (o : Owner) (x : Fields) : Type 0 where
   pub opaque : x .properties .opacity ≤ fullOpacity
 
 module _ {f : List ℕ} {S : ℕ → Type 0} where
-  -- two facts of one walk
-  ensures-both : {A : Type 0} {P Q R : A → Type 0} {w : Walk A} → ((a : A) → P a → Q a → R a) → Ensures f S P w → Ensures f S Q w
-      → Ensures f S R w
-  ensures-both h x y = record { holds = λ at {a} e s. h a (x .holds at e s) (y .holds at e s) }
-
   fields-opaque : (size list : ℕ) → eqb list imageList ≡ false
       → Ensures f S (λ x. x .properties .opacity ≤ fullOpacity) (fields size list)
   unfolding fields
@@ -62,8 +57,10 @@ module _ {f : List ℕ} {S : ℕ → Type 0} where
 
   pub layer-given : (size base : ℕ) → Ensures f S (LayerGiven base) (layer size base)
   layer-given size base =
-      ensures-both (λ x r t. record { range = r; type = t .0; opaque = t .1 }) (ensures-layer size base) (layer-tested size base)
+      ensures-weaken (λ x b. record { range = b .0; type = b .1 .0; opaque = b .1 .1 })
+      (ensures-both (ensures-layer size base) (layer-tested size base))
 
   pub channel-given : (size : ℕ) (o : Owner) → eqb (o .kind) imageList ≡ false → Ensures f S (ChannelGiven o) (channel size o)
   channel-given size o drawn =
-      ensures-both (λ x s h. record { width = s .0; height = s .1; opaque = h }) (ensures-channel size o) (channel-opaque size o drawn)
+      ensures-weaken (λ x b. record { width = b .0 .0; height = b .0 .1; opaque = b .1 })
+      (ensures-both (ensures-channel size o) (channel-opaque size o drawn))

@@ -11,6 +11,7 @@ use lib.ListN.{length}
 use Rattle.xcf_numbers.specs.Limit.{sideLimit, writtenTypeLimit}
 use Rattle.xcf_numbers.specs.Kind
 use Rattle.xcf_numbers.specs.Refusal
+use Rattle.xcf_utf8.specs.Utf8.{wellFormed}
 use Rattle.xcf_walk.specs.Fields.{word}
 use Rattle.xcf_table.specs.declared.Row.{Row}
 use Rattle.xcf_range.proofs.Bounds.{bounds-within}
@@ -60,7 +61,7 @@ reads-type base t ns ok low s = then-here _ (then _ (reads-number t ns s (omega 
 -- the fields of a drawable whose name stands at q, a layer that stands at p, and the owner that a mask's or channel's row shows
 abbrev pub fieldsOf : Drawable → ℕ → ℕ → Fields
 fieldsOf d q h = record {
-  name = record { place = q + 4; length = length (d .name) };
+  name = record { place = q + 4; length = length (d .name); utf8 = wellFormed (d .name) };
   list = q + length (nameBytes (d .name));
   properties = propertiesOf (d .row) (d .hasMask);
   hierarchy = h;

@@ -1,7 +1,7 @@
 -- Where no row is bad, the table is as the writer excepts (`taken-is-excepted`): each row by the facts of its kind (`use-excepted`),
 -- and all of them because no row that is active or the selection comes behind another (`row-alone`).
 -- Assumes nothing.
-use Prim.Native.Nat.{ℕ, _≤_, _<_}
+use Prim.Native.Nat.{ℕ, _+_, _*_, _≤_, _<_}
 use mathlib.Core.Path.{_≡_, refl}
 use mathlib.Core.List.{List, [], _∷_}
 use mathlib.Core.Bool.{Bool, true, false}
@@ -10,25 +10,29 @@ use borrow.Author.Tests.{eq-eqb, ne-eqb, eqb-true}
 use lib.Dec.{ltb, eqb}
 use Rattle.xcf_numbers.specs.Limit.{writtenTypeLimit, modeLimit, layerLimit, tableRows}
 use Rattle.xcf_numbers.specs.Flag
+use Rattle.xcf_numbers.specs.Flag.{flagOf}
 use Rattle.xcf_numbers.specs.Kind
+use Rattle.xcf_utf8.specs.Utf8.{wellFormedFrom}
 use Rattle.xcf_table.specs.declared.Row.{Row}
 use Rattle.xcf_table.specs.Table.{unusedRow, rowAt}
 use Rattle.xcf_table.specs.declared.canvas.Canvas.{Canvas}
 use Rattle.xcf_usable.specs.declared.seen.Seen.{Seen}
-use Rattle.xcf_usable.specs.Usable.{isChannel, isActiveLayer, isActiveChannel, isSelection, channelFlagsOk, countBefore, seenAt, masked, noSecond, drawableOk, layerOk, layerFollows, channelOk, maskFollows, channelFollows, usableRow, usable}
+use Rattle.xcf_usable.specs.Usable.{isChannel, visible, apply, selection, active, notUtf8, isActiveLayer, isActiveChannel, isSelection, channelFlagsOk, countBefore, seenAt, masked, noSecond, layerOk, layerFollows, channelOk, maskFollows, channelFollows, kindOk, usableRow, usable}
 use Rattle.xcf_usable.proofs.Each.{each}
 use Rattle.xcf_usable.proofs.Counts.{few-pass}
 use Rattle.xcf_usable.proofs.AllUsable.{all-usable}
-use Rattle.xcf_usable.proofs.RowFacts.{DrawableFacts, Use, unused, layer, mask, channel, row-use}
+use Rattle.xcf_usable.proofs.RowFacts.{DrawableFacts, ChannelFacts, Use, unused, layer, mask, channel, used-tests, row-use}
 use Rattle.xcf_round_trip.specs.Taken.{RowExcepted, TakenIsExcepted}
 use Rattle.xcf_round_trip.proofs.TableRead.{zero-row}
 use Rattle.xcf_round_trip.proofs.UseTaken.{NoSeconds}
 
 -- a row with its facts
-drawable-excepted : {names : ℕ} {r : Row} → DrawableFacts names r → r .mode ≤ modeLimit → r .form ≤ writtenTypeLimit → r .flags < Flag.group → RowExcepted names r
+drawable-excepted : {names : List ℕ} {r : Row} → DrawableFacts names r → r .mode ≤ modeLimit → r .form ≤ writtenTypeLimit
+    → flagOf (r .flags) Flag.group ≡ 0 → RowExcepted names r
 drawable-excepted d m f g = record {
   short = d .short;
   named = d .named;
+  told = d .told;
   list = d .list;
   pointers = d .pointers;
   mode = m;
@@ -36,10 +40,12 @@ drawable-excepted d m f g = record {
   ungrouped = g;
 }
 
-zero-excepted : (names : ℕ) → RowExcepted names unusedRow
+zero-excepted : (names : List ℕ) → RowExcepted names unusedRow
+unfolding wellFormedFrom
 zero-excepted names = record {
   short = omega arith;
   named = omega arith;
+  told = refl;
   list = refl;
   pointers = refl;
   mode = omega arith;
@@ -47,14 +53,24 @@ zero-excepted names = record {
   ungrouped = omega arith;
 }
 
-module _ (c : Canvas) (names k : ℕ) (s : Seen) (r : Row) (hasMask : Bool) where
+-- no group flag in a sum of the others
+no-group : (n v a s w u : ℕ) → v ≤ 1 → a ≤ 1 → s ≤ 1 → w ≤ 1
+    → n ≡ v + Flag.apply * a + Flag.selection * s + Flag.active * w + Flag.notUtf8 * u → flagOf n Flag.group ≡ 0
+no-group n v a s w u v1 a1 s1 w1 e = omega arith
+
+module _ (c : Canvas) (names : List ℕ) (k : ℕ) (s : Seen) (r : Row) (hasMask : Bool) where
+  channel-ungrouped : ChannelFacts r → flagOf (r .flags) Flag.group ≡ 0
+  channel-ungrouped ch =
+      no-group (r .flags) (visible r) 0 (selection r) (active r) (notUtf8 r) (omega arith) (omega arith) (omega arith) (omega arith)
+      (omega (arith, ch .flags))
+
   use-excepted : Use c names k s r hasMask → RowExcepted names r
   use-excepted (unused e z) = rw (zero-row r z) (zero-excepted names)
-  use-excepted (layer d l b) = drawable-excepted d (l .mode) (l .form) (omega (arith, l .flags))
-  use-excepted (mask d ch m) =
-      drawable-excepted d (omega (arith, ch .mode)) (omega (arith, ch .form)) (omega (arith, ch .flags))
-  use-excepted (channel d ch v b) =
-      drawable-excepted d (omega (arith, ch .mode)) (omega (arith, ch .form)) (omega (arith, ch .flags))
+  use-excepted (layer d l b) =
+      let none = no-group (r .flags) (visible r) (apply r) 0 (active r) (notUtf8 r) (omega arith) (omega arith) (omega arith) (omega arith) in
+      drawable-excepted d (l .mode) (l .form) (none (omega (arith, l .flags)))
+  use-excepted (mask d ch m) = drawable-excepted d (omega (arith, ch .mode)) (omega (arith, ch .form)) (channel-ungrouped ch)
+  use-excepted (channel d ch v b) = drawable-excepted d (omega (arith, ch .mode)) (omega (arith, ch .form)) (channel-ungrouped ch)
 
   layer-alone : r .kind ≡ Kind.layer → layerFollows s r ≡ true → NoSeconds s r
   unfolding layerFollows
@@ -72,38 +88,37 @@ module _ (c : Canvas) (names k : ℕ) (s : Seen) (r : Row) (hasMask : Bool) wher
       e in
       record { current = rw other; active = t 4; selection = t 5 }
 
-  row-alone : Use c names k s r hasMask → usableRow c names k s r hasMask ≡ true → NoSeconds s r
-  unfolding usableRow
-  row-alone (unused _ z) e = rw (zero-row r z) (record { current = refl; active = refl; selection = refl })
-  row-alone (layer d l b) e =
-      layer-alone (l .kind)
-      (each
-      (drawableOk names r ∷ layerOk c k r hasMask ∷ layerFollows s r ∷ [])
-      (rw (ne-eqb (r .kind) Kind.unused (λ z. omega (arith, l .kind)), eq-eqb (r .kind) Kind.layer (l .kind)) at e)
-      2)
-  row-alone (mask d ch m) e =
-      let other = ne-eqb (r .kind) Kind.layer (λ z. omega (arith, m .kind)) in
-      channel-alone other
-      (each
-      (drawableOk names r ∷ channelOk s r ∷ maskFollows k s r ∷ [])
-      (rw (ne-eqb (r .kind) Kind.unused (λ z. omega (arith, m .kind)), other, eq-eqb (r .kind) Kind.mask (m .kind)) at e)
-      1)
-  row-alone (channel d ch v b) e =
-      let other = ne-eqb (r .kind) Kind.layer (λ z. omega (arith, v .kind)) in
-      channel-alone other
-      (each
-      (isChannel r ∷ drawableOk names r ∷ channelOk s r ∷ channelFollows c k s r ∷ [])
-      (rw (ne-eqb (r .kind) Kind.unused (λ z. omega (arith, v .kind)), other, ne-eqb (r .kind) Kind.mask (λ z. omega (arith, v .kind))) at e)
-      2)
+  module _ (ok : usableRow c names k s r hasMask ≡ true) where
+    kind-tests : (r .kind ≡ Kind.unused → ⊥) → kindOk c k s r hasMask ≡ true
+    kind-tests used = used-tests c names k s r hasMask ok used .2
+
+    row-alone : Use c names k s r hasMask → NoSeconds s r
+    unfolding kindOk
+    row-alone (unused _ z) = rw (zero-row r z) (record { current = refl; active = refl; selection = refl })
+    row-alone (layer d l b) =
+        let e = kind-tests (λ z. omega (arith, l .kind)) in
+        layer-alone (l .kind) (each (layerOk c k r hasMask ∷ layerFollows s r ∷ []) (rw (eq-eqb (r .kind) Kind.layer (l .kind)) at e) 1)
+    row-alone (mask d ch m) =
+        let e = kind-tests (λ z. omega (arith, m .kind)) in
+        let other = ne-eqb (r .kind) Kind.layer (λ z. omega (arith, m .kind)) in
+        channel-alone other (each (channelOk s r ∷ maskFollows k s r ∷ []) (rw (other, eq-eqb (r .kind) Kind.mask (m .kind)) at e) 0)
+    row-alone (channel d ch v b) =
+        let e = kind-tests (λ z. omega (arith, v .kind)) in
+        let other = ne-eqb (r .kind) Kind.layer (λ z. omega (arith, v .kind)) in
+        channel-alone other
+        (each
+        (isChannel r ∷ channelOk s r ∷ channelFollows c k s r ∷ [])
+        (rw (other, ne-eqb (r .kind) Kind.mask (λ z. omega (arith, v .kind))) at e)
+        1)
 
 -- a row that is no second one, and passes, has none before it
 none-before : (n : ℕ) {t : Bool} → noSecond t n ≡ true → t ≡ true → n < 1
 none-before n alone e = omega (arith, eqb-true n 0 (rw e at alone))
 
-module _ (c : Canvas) (names : ℕ) (table : List ℕ) (k : ℕ) (ok : usable c names table k ≡ true) where
+module _ (c : Canvas) (names table : List ℕ) (k : ℕ) (ok : usable c names table k ≡ true) where
   alone : NoSeconds (seenAt table k) (rowAt table k)
   unfolding usable
-  alone = row-alone c names k (seenAt table k) (rowAt table k) (masked table k) (row-use c names table k ok) ok
+  alone = row-alone c names k (seenAt table k) (rowAt table k) (masked table k) ok (row-use c names table k ok)
 
   current-alone : isActiveLayer (rowAt table k) ≡ true → countBefore isActiveLayer table k < 1
   unfolding seenAt

@@ -2,15 +2,17 @@
 -- Assumes nothing.
 use Prim.Native.Nat.{ℕ, _<_}
 use mathlib.Core.Path.{_≡_, refl}
+use mathlib.Core.List.{List}
 use mathlib.Core.Bool.{Bool, true, false, _||_, or-true}
 use native.Mathlib.Omega.{arith}
 use borrow.Author.Tests.{eq-eqb, ne-eqb, le-leb, lt-ltb}
 use lib.Dec.{eqb}
+use lib.ListN.{length}
 use Rattle.xcf_table.specs.declared.Row.{Row}
 use Rattle.xcf_table.specs.declared.canvas.Canvas.{Canvas}
 use Rattle.xcf_table.specs.Canvas.{sideOk}
 use Rattle.xcf_usable.specs.declared.seen.Seen.{Seen}
-use Rattle.xcf_usable.specs.Usable.{apply, isActiveLayer, isActiveChannel, isSelection, noSecond, drawableOk, layerOk, layerFollows, channelOk, maskFollows, channelFollows, usableRow}
+use Rattle.xcf_usable.specs.Usable.{apply, isActiveLayer, isActiveChannel, isSelection, noSecond, drawableOk, nameOk, layerOk, layerFollows, channelOk, maskFollows, channelFollows, kindOk, usableRow}
 use Rattle.xcf_usable.proofs.RowFacts.{DrawableFacts, LayerFacts, ChannelFacts, MaskFacts, CanvasFacts, BeforeLayer, BeforeChannel, Use, unused, layer, mask, channel}
 
 pub record NoSeconds (s : Seen) (r : Row) : Type 0 where
@@ -18,7 +20,7 @@ pub record NoSeconds (s : Seen) (r : Row) : Type 0 where
   pub active : noSecond (isActiveChannel r) (s .active) ≡ true
   pub selection : noSecond (isSelection r) (s .selections) ≡ true
 
-drawable-passes : {names : ℕ} {r : Row} → DrawableFacts names r → drawableOk names r ≡ true
+drawable-passes : {names : List ℕ} {r : Row} → DrawableFacts names r → drawableOk (length names) r ≡ true
 unfolding drawableOk sideOk
 drawable-passes x =
     rw (
@@ -34,11 +36,15 @@ drawable-passes x =
       eq-eqb _ _ (x .pointers),
     )
 
+name-passes : {names : List ℕ} {r : Row} → DrawableFacts names r → nameOk names r ≡ true
+unfolding nameOk
+name-passes x = eq-eqb _ _ (x .told)
+
 applied-passes : (r : Row) (hasMask : Bool) → (hasMask ≡ false → apply r ≡ 0) → eqb (apply r) 0 || hasMask ≡ true
 applied-passes r true h = or-true (eqb (apply r) 0)
 applied-passes r false h = rw (eq-eqb _ _ (h refl))
 
-module _ (c : Canvas) (names k : ℕ) (s : Seen) (r : Row) (hasMask : Bool) where
+module _ (c : Canvas) (names : List ℕ) (k : ℕ) (s : Seen) (r : Row) (hasMask : Bool) where
   layer-passes : LayerFacts c k r hasMask → layerOk c k r hasMask ≡ true
   unfolding layerOk
   layer-passes x =
@@ -91,16 +97,17 @@ module _ (c : Canvas) (names k : ℕ) (s : Seen) (r : Row) (hasMask : Bool) wher
   other n e h = ne-eqb (r .kind) n (λ z. omega arith)
 
   pub use-usable : Use c names k s r hasMask → NoSeconds s r → usableRow c names k s r hasMask ≡ true
-  unfolding usableRow
+  unfolding usableRow kindOk
   use-usable (unused e z) o = rw (eq-eqb _ _ e, z)
   use-usable (layer d l b) o =
-      rw (other 0 (l .kind) (omega arith), eq-eqb _ _ (l .kind), drawable-passes d, layer-passes l, layer-follows b o)
+      rw (other 0 (l .kind) (omega arith), eq-eqb _ _ (l .kind), drawable-passes d, name-passes d, layer-passes l, layer-follows b o)
   use-usable (mask d ch m) o =
       rw (
         other 0 (m .kind) (omega arith),
         other 1 (m .kind) (omega arith),
         eq-eqb _ _ (m .kind),
         drawable-passes d,
+        name-passes d,
         channel-passes ch o,
         mask-follows m,
       )
@@ -111,6 +118,7 @@ module _ (c : Canvas) (names k : ℕ) (s : Seen) (r : Row) (hasMask : Bool) wher
         other 2 (v .kind) (omega arith),
         eq-eqb _ _ (v .kind),
         drawable-passes d,
+        name-passes d,
         channel-passes ch o,
         channel-follows v b,
       )

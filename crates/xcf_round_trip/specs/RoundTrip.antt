@@ -9,6 +9,7 @@ use Rattle.xcf_numbers.specs.Limit.{tableRows, tableSize, wordLimit}
 use Rattle.xcf_store.specs.Pointer.{pointerSize}
 use Rattle.xcf_store.specs.Word.{part}
 use Rattle.xcf_table.specs.declared.Row.{Row}
+use Rattle.xcf_table.specs.Name.{nameOf}
 use Rattle.xcf_table.specs.Table.{unusedRow, rowAt}
 use Rattle.xcf_table.specs.declared.canvas.Canvas.{Canvas}
 use Rattle.xcf_read.specs.Answer.{reading}
@@ -43,7 +44,7 @@ withPlaces r name list pointers = record {
 
 -- of the row r that was lent and the row s that was read from the file f: the bytes of their names are the same
 abbrev pub SameName : List ℕ → List ℕ → Row → Row → Type 0
-SameName names f r s = part f (s .name) (s .namelen) ≡ part names (r .name) (r .namelen)
+SameName names f r s = nameOf f s ≡ nameOf names r
 
 -- the file f reads back: the reader, lent any table of the right length, gives the canvas and the rows; each used row is the one lent
 -- but for fields 5, 7 and 8, and the others are unused in both tables; each used row has its name; and the decoder, lent the file and that table, and buffers of the right length

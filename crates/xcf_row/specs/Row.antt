@@ -5,6 +5,7 @@ use lib.Dec.{eqb}
 use Rattle.xcf_numbers.specs.Flag
 use Rattle.xcf_numbers.specs.Kind
 use Rattle.xcf_property.specs.declared.Properties.{Properties}
+use Rattle.xcf_walk.specs.declared.cursor.Name.{Name}
 use Rattle.xcf_table.specs.declared.Row.{Row}
 use Rattle.xcf_grid.specs.Grid.{tileCount}
 use Rattle.xcf_table.specs.declared.canvas.Canvas.{Canvas}
@@ -17,13 +18,19 @@ use Rattle.xcf_table.specs.Canvas.{depthOf}
 unfoldable pub flag : ℕ → ℕ → ℕ
 flag v bit = cond (eqb v 0) 0 bit
 
--- the flags that a layer can have; without a mask it applies none
-unfoldable pub layerFlags : Properties → ℕ → ℕ
-layerFlags p mask =
-    flag (p .visible) Flag.visible + flag (cond (eqb mask 0) 0 (p .apply)) Flag.apply + flag (p .active) Flag.active + flag (p .group) Flag.group
+-- the flag of a name
+unfoldable pub nameFlag : Name → ℕ
+nameFlag name = cond (name .utf8) 0 Flag.notUtf8
 
-unfoldable pub channelFlags : Properties → ℕ
-channelFlags p = flag (p .visible) Flag.visible + flag (p .selection) Flag.selection + flag (p .active) Flag.active
+-- the flags that a layer can have; without a mask it applies none
+unfoldable pub layerFlags : Properties → ℕ → Name → ℕ
+layerFlags p mask name =
+    flag (p .visible) Flag.visible + flag (cond (eqb mask 0) 0 (p .apply)) Flag.apply + flag (p .active) Flag.active + flag (p .group) Flag.group
+    + nameFlag name
+
+unfoldable pub channelFlags : Properties → Name → ℕ
+channelFlags p name =
+    flag (p .visible) Flag.visible + flag (p .selection) Flag.selection + flag (p .active) Flag.active + nameFlag name
 
 unfoldable pub layerRow : Layer → ℕ → ℕ → Row
 layerRow x tiles k = record {
@@ -38,7 +45,7 @@ layerRow x tiles k = record {
   pointers = tiles;
   count = tileCount (x .width) (x .height);
   opacity = x .fields .properties .opacity;
-  flags = layerFlags (x .fields .properties) (x .mask);
+  flags = layerFlags (x .fields .properties) (x .mask) (x .fields .name);
   dx = x .fields .properties .dx;
   dy = x .fields .properties .dy;
   mode = x .fields .properties .mode;
@@ -58,7 +65,7 @@ channelRow o x tiles = record {
   pointers = tiles;
   count = tileCount (o .width) (o .height);
   opacity = x .properties .opacity;
-  flags = channelFlags (x .properties);
+  flags = channelFlags (x .properties) (x .name);
   dx = o .dx;
   dy = o .dy;
   mode = 0;

@@ -2,7 +2,8 @@
 ghost use mathlib.Core.Path.{_≡_};
 ghost use Prim.Native.Nat.{_≤_};
 ghost use Rattle.xcf_numbers.specs.Limit.{fileLimit, sideLimit};
-ghost use Rattle.xcf_row.specs.Row.{flag, layerFlags, channelFlags, layerRow, channelRow, maskOwner, channelOwner};
+ghost use Rattle.xcf_numbers.specs.Flag.{notUtf8};
+ghost use Rattle.xcf_row.specs.Row.{flag, layerFlags, channelFlags, nameFlag, layerRow, channelRow, maskOwner, channelOwner};
 ghost use Rattle.xcf_parse.specs.Parts.{FieldsLow, LayerLow};
 use xcf_grid::tile_count;
 use xcf_numbers::flag;
@@ -14,6 +15,7 @@ use xcf_property::Properties;
 use xcf_table::Row;
 use xcf_table::canvas::Canvas;
 use xcf_table::canvas::depth_of;
+use xcf_walk::cursor::Name;
 
 fn flag(v: u32, bit: u32) -> u32
     ensures { λ r. ⌜ (r ≡ flag v bit) × (r ≤ bit) ⌝ }
@@ -21,22 +23,30 @@ fn flag(v: u32, bit: u32) -> u32
     if v == 0 { 0 } else { bit }
 }
 
-fn layer_flags(p: Properties, mask: u32) -> u32
-    ensures { λ r. ⌜ r ≡ layerFlags p mask ⌝ }
+fn name_flag(name: Name) -> u32
+    ensures { λ r. ⌜ (r ≡ nameFlag name) × (r ≤ notUtf8) ⌝ }
+{
+    if name.utf8 { 0 } else { flag::NOT_UTF8 }
+}
+
+fn layer_flags(p: Properties, mask: u32, name: Name) -> u32
+    ensures { λ r. ⌜ r ≡ layerFlags p mask name ⌝ }
 {
     let apply = if mask == 0 { 0 } else { p.apply };
     flag(p.visible, flag::VISIBLE)
         + flag(apply, flag::APPLY)
         + flag(p.active, flag::ACTIVE)
         + flag(p.group, flag::GROUP)
+        + name_flag(name)
 }
 
-fn channel_flags(p: Properties) -> u32
-    ensures { λ r. ⌜ r ≡ channelFlags p ⌝ }
+fn channel_flags(p: Properties, name: Name) -> u32
+    ensures { λ r. ⌜ r ≡ channelFlags p name ⌝ }
 {
     flag(p.visible, flag::VISIBLE)
         + flag(p.selection, flag::SELECTION)
         + flag(p.active, flag::ACTIVE)
+        + name_flag(name)
 }
 
 pub fn layer_row(x: Layer, tiles: usize, k: u32) -> Row
@@ -44,6 +54,7 @@ pub fn layer_row(x: Layer, tiles: usize, k: u32) -> Row
     ensures { λ r. ⌜ r ≡ layerRow x tiles k ⌝ }
 {
     let own = x.fields;
+    let name = own.name;
     let p = own.properties;
     Row {
         kind: kind::LAYER,
@@ -51,13 +62,13 @@ pub fn layer_row(x: Layer, tiles: usize, k: u32) -> Row
         height: x.height,
         depth: depth_of(x.form),
         form: x.form,
-        name: own.name.place as u32,
-        namelen: own.name.length as u32,
+        name: name.place as u32,
+        namelen: name.length as u32,
         list: own.list as u32,
         pointers: tiles as u32,
         count: tile_count(x.width, x.height) as u32,
         opacity: p.opacity,
-        flags: layer_flags(p, x.mask),
+        flags: layer_flags(p, x.mask, name),
         dx: p.dx,
         dy: p.dy,
         mode: p.mode,
@@ -69,6 +80,7 @@ pub fn channel_row(o: Owner, x: Fields, tiles: usize) -> Row
     requires { ⌜ (tiles ≤ fileLimit) × (o .width ≤ sideLimit) × (o .height ≤ sideLimit) × FieldsLow x fileLimit ⌝ }
     ensures { λ r. ⌜ r ≡ channelRow o x tiles ⌝ }
 {
+    let name = x.name;
     let p = x.properties;
     Row {
         kind: o.kind,
@@ -76,13 +88,13 @@ pub fn channel_row(o: Owner, x: Fields, tiles: usize) -> Row
         height: o.height,
         depth: 1,
         form: 2,
-        name: x.name.place as u32,
-        namelen: x.name.length as u32,
+        name: name.place as u32,
+        namelen: name.length as u32,
         list: x.list as u32,
         pointers: tiles as u32,
         count: tile_count(o.width, o.height) as u32,
         opacity: p.opacity,
-        flags: channel_flags(p),
+        flags: channel_flags(p, name),
         dx: o.dx,
         dy: o.dy,
         mode: 0,

@@ -1,2 +1,3 @@
 pub mod Canvas
 pub mod Table
+pub mod Name

@@ -12,6 +12,7 @@ use lib.ListN.{length, getD, replicate}
 use lib.Seq.{getD-set-other}
 use Rattle.xcf_numbers.specs.Limit.{rowSize, tableSize}
 use Rattle.xcf_numbers.specs.Mark
+use Rattle.xcf_utf8.specs.Utf8.{begun, wellFormedFrom}
 use Rattle.xcf_walk.specs.Walk.{got, run, bytes, here, must, fileLength, jump, loop, turns}
 use Rattle.xcf_store.specs.Word.{bigEndian, wordOf}
 use Rattle.xcf_walk.specs.Fields.{number, word, string}
@@ -29,7 +30,7 @@ use Rattle.xcf_parse.specs.Hierarchy.{agrees, pointer, restTurn, rest, hierarch
 use Rattle.xcf_store.specs.Pointer.{pointerSize}
 use Rattle.xcf_table.specs.Canvas.{sideOk}
 use Rattle.xcf_parse.specs.Drawable.{side, sideLike, fields, channel}
-use Rattle.xcf_row.specs.Row.{flag, channelFlags, channelRow, channelOwner}
+use Rattle.xcf_row.specs.Row.{flag, nameFlag, channelFlags, channelRow, channelOwner}
 use Rattle.xcf_read.specs.Drawable.{channelRows, canvasChannelRows}
 use Rattle.xcf_parse.specs.Image.{baseOk, baseType, head}
 use Rattle.xcf_read.specs.Image.{drawables, canvasOf, image, structureByte}
@@ -59,7 +60,7 @@ walked : run (image pointerSize) wideFile 0
       head = record { version = 0; width = 65; height = 1; base = 1; compression = 1 };
       rows = record { count = 1; numbers = wideRow };
     }) 145
-unfolding run bytes here must fileLength jump loop turns bigEndian number word string lengthOk wordOf contentOf payload isColourMap content property isFloating lacksMap allowed activeType put propertyTurn properties addRow same versionIn header agrees pointer restTurn rest tiles hierarchy sideOk side sideLike fields channel flag channelFlags channelRow channelOwner channelRows canvasChannelRows baseOk baseType head pointers drawables canvasOf image
+unfolding run bytes here must fileLength jump loop turns bigEndian number word begun wellFormedFrom string lengthOk wordOf contentOf payload isColourMap content property isFloating lacksMap allowed activeType put propertyTurn properties addRow same versionIn header agrees pointer restTurn rest tiles hierarchy sideOk side sideLike fields channel flag nameFlag channelFlags channelRow channelOwner channelRows canvasChannelRows baseOk baseType head pointers drawables canvasOf image
 walked = refl
 
 wide-read : (lent : List ℕ) → length lent ≡ tableSize → reading wideFile lent ≡ given
@@ -74,7 +75,7 @@ differ-at i differs = go (eqb i 145) refl
     go false e = absurd (differs (sym (getD-set-other wideFile 145 i 128 0 (eqb-false i 145 e))))
 
 no-structure : structureByte pointerSize wideFile 145 → ⊥
-unfolding passes structureByte run bytes here must fileLength jump loop turns bigEndian number word string lengthOk wordOf contentOf payload isColourMap content property isFloating lacksMap allowed activeType put propertyTurn properties addRow same versionIn header agrees pointer restTurn rest tiles hierarchy sideOk side sideLike fields channel flag channelFlags channelRow channelOwner channelRows canvasChannelRows baseOk baseType head pointers drawables canvasOf image
+unfolding passes structureByte run bytes here must fileLength jump loop turns bigEndian number word begun wellFormedFrom string lengthOk wordOf contentOf payload isColourMap content property isFloating lacksMap allowed activeType put propertyTurn properties addRow same versionIn header agrees pointer restTurn rest tiles hierarchy sideOk side sideLike fields channel flag nameFlag channelFlags channelRow channelOwner channelRows canvasChannelRows baseOk baseType head pointers drawables canvasOf image
 no-structure = not-passed (image pointerSize) wideFile 0 145 refl
 
 in-window : InChosen pointerSize wideFile given FirstTile 145

@@ -17,9 +17,12 @@ use Rattle.xcf_encode_laws.proofs.ReadBack.{stream-read-back}
 use Rattle.xcf_encode.proofs.TileBound.{tile-bound}
 use Rattle.xcf_encode_laws.proofs.TileReadBack.{tile-read-back}
 use Rattle.xcf_encode_laws.proofs.EncoderNumbers.{encoder-listed}
+use Rattle.xcf_table.specs.Table.{tableOf}
 use Rattle.xcf_walk_laws.proofs.Depends.{outcome-depends}
+use Rattle.xcf_utf8.proofs.Grammar.{well-formed-text}
 use Rattle.xcf_walk_laws.proofs.Map.{map-rule}
 use Rattle.xcf_read_laws.proofs.Accepted.{accepted-exactly, read-walked}
+use Rattle.xcf_read_laws.proofs.Accepts.{accepts}
 use Rattle.xcf_read_laws.proofs.ReadDepends.{read-depends}
 use Rattle.xcf_read_laws.proofs.Numbers.{refusals-listed}
 use Rattle.xcf_read_laws.proofs.ReaderNumbers.{reader-listed}
@@ -38,11 +41,11 @@ use Rattle.xcf_round_trip.proofs.RoundTrip.{round-trip}
 use Rattle.xcf_round_trip.proofs.GivenTaken.{given-is-taken}
 use Rattle.xcf_round_trip.proofs.TakenExcepted.{taken-is-excepted}
 use Rattle.xcf_theorems.proofs.ExampleMaps.{example-maps}
-use Rattle.xcf_theorems.proofs.ExampleRead.{example-read}
-use Rattle.xcf_theorems.proofs.ExampleWritten.{example-written}
+use Rattle.xcf_theorems.proofs.ExampleRead.{example-read, latin-read}
+use Rattle.xcf_theorems.proofs.ExampleWritten.{example-written, latin-refused}
 use Rattle.xcf_theorems.proofs.ExampleListed.{example-listed}
 use Rattle.xcf_theorems.proofs.ExampleDamaged.{example-damaged}
-use Rattle.xcf_theorems.specs.Statements.{ReaderRefusalsAreListed, RefusalsAreListed, PassedBytesDecide, DecoderRefusalsAreListed, CounterRefusalsAreListed, TileRefusalsAreListed, MarksAreListed, EncoderRefusalsAreListed, WriterRefusalsAreListed, ListerRefusalsAreListed, ListerAnswersAsTheReader, AcceptedWithoutFault, ColourMapsAreTaken, ExampleMapsAreRead, AcceptedRowsDecode, TileGoodWhenValid, DrawableTilesGoodWhenValid, CountIsOfTheMarks, CountIsTheDecoders, PixelsAreWhole, MarkedPixelsAreZero, PixelsAreStreams, PixelsAreTheirTiles, EachPixelHasOneTile, TilesAreShown, WrittenReadsBack, GivenRowsAreTaken, TakenRowsAreExcepted, EncodedStreamBounded, StreamReadsBack, TileReadsBack, EncodedTileFits, DamageIsIsolated, ExampleIsDamaged, StructureBytesDecide, ConsumedBytesDecide, ConsumedBytesDecideTheCall, ExamplesHold, ExampleFileIsRead, ExampleFileIsWritten, ExampleFileIsListed}
+use Rattle.xcf_theorems.specs.Statements.{ReaderRefusalsAreListed, RefusalsAreListed, PassedBytesDecide, DecoderRefusalsAreListed, CounterRefusalsAreListed, TileRefusalsAreListed, MarksAreListed, EncoderRefusalsAreListed, WriterRefusalsAreListed, ListerRefusalsAreListed, ListerAnswersAsTheReader, AcceptedWithoutFault, ColourMapsAreTaken, ExampleMapsAreRead, WellFormedIsText, NamesAreTold, ExampleNameIsTold, AcceptedRowsDecode, TileGoodWhenValid, DrawableTilesGoodWhenValid, CountIsOfTheMarks, CountIsTheDecoders, PixelsAreWhole, MarkedPixelsAreZero, PixelsAreStreams, PixelsAreTheirTiles, EachPixelHasOneTile, TilesAreShown, WrittenReadsBack, GivenRowsAreTaken, TakenRowsAreExcepted, EncodedStreamBounded, StreamReadsBack, TileReadsBack, EncodedTileFits, DamageIsIsolated, ExampleIsDamaged, StructureBytesDecide, ConsumedBytesDecide, ConsumedBytesDecideTheCall, ExamplesHold, ExampleFileIsRead, ExampleFileIsWritten, ExampleFileIsListed}
 
 -- ## Any bytes
 
@@ -88,6 +91,16 @@ colour-maps-are-taken = map-rule
 
 pub example-maps-are-read : ExampleMapsAreRead
 example-maps-are-read = example-maps
+
+pub well-formed-is-text : WellFormedIsText
+well-formed-is-text = well-formed-text
+
+pub names-are-told : NamesAreTold
+names-are-told file lent accepted k below = accepts file lent accepted .row k below .told
+
+pub example-name-is-told : ExampleNameIsTold
+unfolding tableOf
+example-name-is-told table output size = (latin-read table size, latin-refused output)
 
 pub accepted-rows-decode : AcceptedRowsDecode
 accepted-rows-decode = row-decoded

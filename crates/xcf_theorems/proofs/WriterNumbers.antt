@@ -19,13 +19,13 @@ use Rattle.xcf_write.specs.Answer.{fileOf, rowsRefusal, inputRefusal, writeAnsw
 abbrev Listed : WriteAnswer → Type 0
 Listed a = listed writerNumbers (a .number) ≡ true
 
-rows-listed : (c : Canvas) (table : List ℕ) (names pixels : ℕ) → Listed (rowsRefusal c table names pixels)
+rows-listed : (c : Canvas) (table names : List ℕ) (pixels : ℕ) → Listed (rowsRefusal c table names pixels)
 unfolding listed rowsRefusal
 rows-listed c table names pixels =
     by-cases Listed (eqb (badRow c names table) tableRows) _ _
     (λ _. by-cases Listed (eqb pixels (pixelsSize table (usedRows table) 0)) _ _ (λ _. refl) (λ _. refl)) (λ _. refl)
 
-input-listed : (c : Canvas) (table : List ℕ) (names pixels : ℕ) → Listed (inputRefusal c table names pixels)
+input-listed : (c : Canvas) (table names : List ℕ) (pixels : ℕ) → Listed (inputRefusal c table names pixels)
 unfolding listed inputRefusal
 input-listed c table names pixels =
     by-cases Listed (eqb (length table) tableSize) _ _
@@ -38,6 +38,6 @@ pub writer-listed : (c : Canvas) (table names pixels output : List ℕ) → List
 unfolding listed writeAnswer writing
 writer-listed c table names pixels output =
     let size = length (fileOf c table names pixels) in
-    by-cases Listed (eqb (inputRefusal c table (length names) (length pixels) .number) 0) _ _
+    by-cases Listed (eqb (inputRefusal c table names (length pixels) .number) 0) _ _
     (λ _. by-cases Listed (leb size (length output) && leb size fileLimit) _ _ (λ _. refl) (λ _. refl))
-    (λ _. input-listed c table (length names) (length pixels))
+    (λ _. input-listed c table names (length pixels))

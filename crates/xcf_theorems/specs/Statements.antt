@@ -11,6 +11,8 @@ use Rattle.xcf_numbers.specs.Mark
 use Rattle.xcf_numbers.specs.PropertyType
 use Rattle.xcf_numbers.specs.Refusal
 use Rattle.xcf_numbers.specs.Listed.{listed}
+use Rattle.xcf_utf8.specs.Utf8.{wellFormed}
+use Rattle.xcf_utf8.specs.Grammar.{Text}
 use Rattle.xcf_stream.specs.Stream.{streamAt}
 use Rattle.xcf_stream.specs.Streams.{streamsAt}
 use Rattle.xcf_tile.specs.Tile.{tileOf}
@@ -24,6 +26,7 @@ use Rattle.xcf_property.specs.Property.{imageList}
 use Rattle.xcf_walk.specs.Walk.{Walk, got, refused, run, PassedOver}
 use Rattle.xcf_walk.specs.Property.{content}
 use Rattle.xcf_walk_laws.specs.Map.{MapRule}
+use Rattle.xcf_table.specs.Name.{Told}
 use Rattle.xcf_table.specs.Table.{rowAt}
 use Rattle.xcf_store.specs.Pointer.{pointerSize}
 use Rattle.xcf_read.specs.Image.{Image, image, structureByte}
@@ -40,7 +43,7 @@ use Rattle.xcf_listing.specs.Listing.{textSize, listing, listerNumbers, ListsAs
 use Rattle.xcf_round_trip.specs.RoundTrip.{RoundTrip}
 use Rattle.xcf_round_trip.specs.Taken.{GivenIsTaken, TakenIsExcepted}
 use Rattle.xcf_theorems.specs.DamagedExample.{DamagedExample}
-use Rattle.xcf_theorems.specs.ExampleFile.{exampleFile, exampleRow, exampleTable, exampleListing}
+use Rattle.xcf_theorems.specs.ExampleFile.{exampleNamed, exampleFile, exampleFlagged, exampleRow, exampleTable, exampleListing}
 use Rattle.xcf_theorems.specs.Examples.{table, All}
 use Rattle.xcf_theorems.specs.MapExample.{mapFile}
 
@@ -131,6 +134,31 @@ ExampleMapsAreRead =
     })
     × (reading (mapFile 5) table ≡ reading (mapFile 7) table)
     × (reading (mapFile 6) table .answer ≡ refusal Refusal.badLength 30)
+
+-- Bytes are well-formed exactly where they are UTF-8 text: characters one after another, each of a form of RFC 3629's grammar. In full
+-- in `xcf_utf8/specs/Grammar.antt`.
+abbrev pub WellFormedIsText : Type 0
+WellFormedIsText = (bytes : List ℕ) → (wellFormed bytes ≡ true → Text bytes) × (Text bytes → wellFormed bytes ≡ true)
+
+-- Flag 32 of each row of an accepted file is set exactly where the row's name is not well-formed.
+abbrev pub NamesAreTold : Type 0
+NamesAreTold =
+    (file lent : List ℕ) →
+    let x = reading file lent in
+    x .answer .number ≡ 0 → (k : ℕ) → k < x .answer .rows → Told file (rowOf x k)
+
+-- Such is the row of the example file with a Latin-1 letter, E9, as its name: flag 32 stands beside that of a visible channel. Without it
+-- the writer does not take the row with that name.
+abbrev pub ExampleNameIsTold : Type 0
+ExampleNameIsTold =
+    (table output : List ℕ) → length table ≡ tableSize
+    → (reading (exampleNamed 0xE9) table
+    ≡ record {
+      answer = record { number = 0; place = 0; width = 1; height = 1; base = 1; version = 0; compression = 1; rows = 1 };
+      table = exampleFlagged 33 ++ replicate (tableSize - rowSize) 0;
+    })
+    × (writing (record { width = 1; height = 1; base = 1 }) exampleTable (0xE9 ∷ []) (255 ∷ []) output
+    ≡ record { answer = record { number = Refusal.badRow; place = 0; length = 0 }; output = output })
 
 -- The decoder refuses no row of an accepted file, where the lent buffers fit.
 abbrev pub AcceptedRowsDecode : Type 0

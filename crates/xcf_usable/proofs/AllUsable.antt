@@ -11,7 +11,7 @@ use Rattle.xcf_table.specs.declared.canvas.Canvas.{Canvas}
 use Rattle.xcf_usable.specs.Usable.{usable, badFrom, badRow}
 use Rattle.xcf_usable.proofs.BadLoop.{bad-next}
 
-module _ (c : Canvas) (names : ℕ) (table : List ℕ) where
+module _ (c : Canvas) (names table : List ℕ) where
   none-from : (k : ℕ) → k < tableRows → badFrom c names table (tableRows - k) k ≡ tableRows
       → (usable c names table k ≡ true) × (badFrom c names table (tableRows - (k + 1)) (k + 1) ≡ tableRows)
   none-from k h e = go (usable c names table k) refl (sym (bad-next c names table k h) ∙ e)

@@ -12,7 +12,7 @@ use Rattle.xcf_table.specs.declared.canvas.Canvas.{Canvas}
 use Rattle.xcf_usable.specs.declared.seen.Seen.{Seen}
 use Rattle.xcf_usable.specs.Usable.{seenAt, masked, usableRow, usable, badFrom, badRow}
 
-pub bad-next : (c : Canvas) (names : ℕ) (table : List ℕ) (k : ℕ) → k < tableRows
+pub bad-next : (c : Canvas) (names table : List ℕ) (k : ℕ) → k < tableRows
     → badFrom c names table (tableRows - k) k ≡ cond (usable c names table k) (badFrom c names table (tableRows - (k + 1)) (k + 1)) k
 unfolding badFrom
 bad-next c names table k h =
@@ -20,16 +20,16 @@ bad-next c names table k h =
     rw e
 
 -- the rows before row k are those seen, and the search from row k on gives what the whole search gives
-pub record Left (c : Canvas) (names : ℕ) (table : List ℕ) (k : ℕ) (s : Seen) : Type 0 where
+pub record Left (c : Canvas) (names table : List ℕ) (k : ℕ) (s : Seen) : Type 0 where
   pub few : k ≤ tableRows
   pub seen : s ≡ seenAt table k
   pub rest : badFrom c names table (tableRows - k) k ≡ badRow c names table
 
-pub left-first : (c : Canvas) (names : ℕ) (table : List ℕ) (s : Seen) → s ≡ seenAt table 0 → Left c names table 0 s
+pub left-first : (c : Canvas) (names table : List ℕ) (s : Seen) → s ≡ seenAt table 0 → Left c names table 0 s
 unfolding badRow
 left-first c names table s e = record { few = omega arith; seen = e; rest = refl }
 
-module _ {c : Canvas} {names : ℕ} {table : List ℕ} {k : ℕ} {s : Seen} (g : Left c names table k s) (h : k < tableRows) where
+module _ {c : Canvas} {names table : List ℕ} {k : ℕ} {s : Seen} (g : Left c names table k s) (h : k < tableRows) where
   -- the test of row k behind what is seen, and what is left to search
   tested : (b : Bool) → b ≡ usableRow c names k s (rowAt table k) (masked table k)
       → badRow c names table ≡ cond b (badFrom c names table (tableRows - (k + 1)) (k + 1)) k
@@ -43,7 +43,7 @@ module _ {c : Canvas} {names : ℕ} {table : List ℕ} {k : ℕ} {s : Seen} (g :
   pub left-bad : {b : Bool} → b ≡ usableRow c names k s (rowAt table k) (masked table k) → b ≡ false → k ≡ badRow c names table
   left-bad {b} e bad = sym (rw bad at (tested b e))
 
-pub left-over : {c : Canvas} {names : ℕ} {table : List ℕ} {k : ℕ} {s : Seen}
+pub left-over : {c : Canvas} {names table : List ℕ} {k : ℕ} {s : Seen}
     → Left c names table k s → tableRows ≤ k → k ≡ badRow c names table
 unfolding badFrom
 left-over {k} g h =

@@ -17,7 +17,7 @@ use Rattle.xcf_usable.specs.Usable.{isLayer, isChannel, isUnused, countB
 use Rattle.xcf_usable.proofs.Counts.{counted, few-pass}
 use Rattle.xcf_usable.proofs.RowFacts.{MaskFacts, BeforeLayer, Use, unused, layer, mask, channel, row-use, layer-before, mask-facts, channel-before}
 
-module _ (c : Canvas) (names : ℕ) (table : List ℕ) (all : (k : ℕ) → k < tableRows → usable c names table k ≡ true) where
+module _ (c : Canvas) (names table : List ℕ) (all : (k : ℕ) → k < tableRows → usable c names table k ≡ true) where
   pub first-not-mask : rowAt table 0 .kind ≡ Kind.mask → ⊥
   unfolding rowBefore
   first-not-mask two = omega (arith, mask-facts c names table 0 (all 0 (omega arith)) two .layer)

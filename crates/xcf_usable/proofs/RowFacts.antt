@@ -1,4 +1,5 @@
--- What the tests of a usable row say: as facts by its kind (`row-use`), and then each group of facts from the row's kind.
+-- What the tests of a usable row say: that its name lies in the lent bytes (`name-inside`), facts by its kind (`row-use`), and then
+-- each group of facts from the row's kind.
 -- Assumes nothing.
 use Prim.Native.Nat.{ℕ, zero, suc, _+_, _*_, _≤_, _<_}
 use mathlib.Core.Path.{_≡_, refl}
@@ -7,27 +8,30 @@ use mathlib.Core.Bool.{Bool, true, false, _||_}
 use native.Mathlib.Omega.{arith}
 use borrow.Author.Tests.{ltb-true, leb-true, eqb-true, eq-eqb, ne-eqb}
 use lib.Dec.{leb, ltb, eqb}
+use lib.ListN.{length, getD}
 use Rattle.xcf_numbers.specs.Limit.{sideLimit, depthLimit, writtenTypeLimit, fullOpacity, modeLimit, layerLimit, channelLimit, nameLimit}
 use Rattle.xcf_numbers.specs.Kind
 use Rattle.xcf_numbers.specs.Flag
 use Rattle.xcf_table.specs.declared.Row.{Row}
+use Rattle.xcf_table.specs.Name.{Told}
 use Rattle.xcf_table.specs.Table.{rowNumbers, rowAt}
 use Rattle.xcf_grid.specs.Grid.{tileCount}
 use Rattle.xcf_range.proofs.Bounds.{within-bounds}
 use Rattle.xcf_table.specs.declared.canvas.Canvas.{Canvas}
 use Rattle.xcf_table.specs.Canvas.{sideOk, typeOk, depthOf}
 use Rattle.xcf_usable.specs.declared.seen.Seen.{Seen}
-use Rattle.xcf_usable.specs.Usable.{isLayer, isChannel, visible, apply, selection, active, layerFlagsOk, channelFlagsOk, isActiveLayer, isActiveChannel, isSelection, rowBefore, seenAt, masked, noSecond, drawableOk, layerOk, layerFollows, channelOk, maskFollows, channelFollows, allZero, usableRow, usable}
+use Rattle.xcf_usable.specs.Usable.{isLayer, isChannel, visible, apply, selection, active, notUtf8, layerFlagsOk, channelFlagsOk, isActiveLayer, isActiveChannel, isSelection, rowBefore, seenAt, masked, noSecond, drawableOk, nameOk, layerOk, layerFollows, channelOk, maskFollows, channelFollows, allZero, kindOk, usableRow, usable}
 use Rattle.xcf_usable.proofs.Each.{each}
 
 -- what every used row has
-pub record DrawableFacts (names : ℕ) (r : Row) : Type 0 where
+pub record DrawableFacts (names : List ℕ) (r : Row) : Type 0 where
   pub wide : (1 ≤ r .width) × (r .width ≤ sideLimit)
   pub high : (1 ≤ r .height) × (r .height ≤ sideLimit)
   pub count : r .count ≡ tileCount (r .width) (r .height)
   pub opaque : r .opacity ≤ fullOpacity
   pub short : r .namelen ≤ nameLimit
-  pub named : r .name + r .namelen ≤ names
+  pub named : r .name + r .namelen ≤ length names
+  pub told : Told names r
   pub list : r .list ≡ 0
   pub pointers : r .pointers ≡ 0
   pub deep : (1 ≤ r .depth) × (r .depth ≤ depthLimit)
@@ -40,7 +44,7 @@ pub record LayerFacts (c : Canvas) (k : ℕ) (r : Row) (hasMask : Bool) : Type 0
   pub depth : r .depth ≡ depthOf (r .form)
   pub mode : r .mode ≤ modeLimit
   pub owner : r .owner ≡ k
-  pub flags : r .flags ≡ visible r + Flag.apply * apply r + Flag.active * active r
+  pub flags : r .flags ≡ visible r + Flag.apply * apply r + Flag.active * active r + Flag.notUtf8 * notUtf8 r
   pub applied : hasMask ≡ false → apply r ≡ 0
 
 -- a mask's or channel's numbers
@@ -48,7 +52,7 @@ pub record ChannelFacts (r : Row) : Type 0 where
   pub depth : r .depth ≡ 1
   pub form : r .form ≡ 2
   pub mode : r .mode ≡ 0
-  pub flags : r .flags ≡ visible r + Flag.selection * selection r + Flag.active * active r
+  pub flags : r .flags ≡ visible r + Flag.selection * selection r + Flag.active * active r + Flag.notUtf8 * notUtf8 r
 
 -- a mask behind its layer
 pub record MaskFacts (k : ℕ) (o r : Row) : Type 0 where
@@ -80,7 +84,7 @@ pub record BeforeChannel (s : Seen) : Type 0 where
   pub unused : s .unused ≡ 0
 
 -- a usable row, by its kind
-pub data Use (c : Canvas) (names k : ℕ) (s : Seen) (r : Row) (hasMask : Bool) : Type 0 where
+pub data Use (c : Canvas) (names : List ℕ) (k : ℕ) (s : Seen) (r : Row) (hasMask : Bool) : Type 0 where
   unused : r .kind ≡ Kind.unused → allZero (rowNumbers r) ≡ true → Use c names k s r hasMask
   layer : DrawableFacts names r → LayerFacts c k r hasMask → BeforeLayer s → Use c names k s r hasMask
   mask : DrawableFacts names r → ChannelFacts r → MaskFacts k (s .row) r → Use c names k s r hasMask
@@ -98,21 +102,33 @@ or-first : (a b : Bool) → a || b ≡ true → b ≡ false → a ≡ true
 or-first true b e none = refl
 or-first false b e none = rw none at e
 
-drawable-says : (names : ℕ) (r : Row) → drawableOk names r ≡ true → (1 ≤ r .depth) × (r .depth ≤ depthLimit) → DrawableFacts names r
-unfolding drawableOk sideOk
-drawable-says names r e deep =
-    let t =
-    each
-    (sideOk (r .width) ∷ sideOk (r .height) ∷ eqb (r .count) (tileCount (r .width) (r .height)) ∷ leb (r .opacity) fullOpacity
-    ∷ leb (r .namelen) nameLimit ∷ leb (r .name + r .namelen) names ∷ eqb (r .list) 0 ∷ eqb (r .pointers) 0 ∷ [])
-    e in
+-- the tests of any used row, where so many bytes are lent for names
+abbrev drawableTests : ℕ → Row → List Bool
+drawableTests names r =
+    sideOk (r .width) ∷ sideOk (r .height) ∷ eqb (r .count) (tileCount (r .width) (r .height)) ∷ leb (r .opacity) fullOpacity
+    ∷ leb (r .namelen) nameLimit ∷ leb (r .name + r .namelen) names ∷ eqb (r .list) 0 ∷ eqb (r .pointers) 0 ∷ []
+
+drawable-tests : (names : ℕ) (r : Row) → drawableOk names r ≡ true → (i : ℕ) → getD (drawableTests names r) i true ≡ true
+unfolding drawableOk
+drawable-tests names r e = each (drawableTests names r) e
+
+-- a name lies in the lent bytes
+pub name-inside : (names : ℕ) (r : Row) → drawableOk names r ≡ true → r .name + r .namelen ≤ names
+name-inside names r e = leb-true _ _ (drawable-tests names r e 5)
+
+drawable-says : (names : List ℕ) (r : Row)
+    → drawableOk (length names) r ≡ true → nameOk names r ≡ true → (1 ≤ r .depth) × (r .depth ≤ depthLimit) → DrawableFacts names r
+unfolding sideOk nameOk
+drawable-says names r e told deep =
+    let t = drawable-tests (length names) r e in
     record {
       wide = within-bounds 1 sideLimit (r .width) (t 0);
       high = within-bounds 1 sideLimit (r .height) (t 1);
       count = eqb-true _ _ (t 2);
       opaque = leb-true _ _ (t 3);
       short = leb-true _ _ (t 4);
-      named = leb-true _ _ (t 5);
+      named = name-inside (length names) r e;
+      told = eqb-true _ _ told;
       list = eqb-true _ _ (t 6);
       pointers = eqb-true _ _ (t 7);
       deep = deep;
@@ -192,41 +208,55 @@ canvas-says c k s r kind e =
       record { few = ltb-true _ _ (t 5); unused = eqb-true _ _ (t 6) },
     )
 
-row-says : (c : Canvas) (names k : ℕ) (s : Seen) (r : Row) (hasMask : Bool)
-    → usableRow c names k s r hasMask ≡ true → Use c names k s r hasMask
-unfolding usableRow
-row-says c names k s r hasMask e = go (r .kind) refl
-  where
-    one-deep : r .depth ≡ 1 → (1 ≤ r .depth) × (r .depth ≤ depthLimit)
-    one-deep h = omega arith
+-- a usable row
+module _ (c : Canvas) (names : List ℕ) (k : ℕ) (s : Seen) (r : Row) (hasMask : Bool) (ok : usableRow c names k s r hasMask ≡ true) where
+  -- where it is used, it passes the tests of any, of its name and of its kind
+  pub used-tests : (r .kind ≡ Kind.unused → ⊥) → (drawableOk (length names) r ≡ true) × (nameOk names r ≡ true) × (kindOk c k s r hasMask ≡ true)
+  unfolding usableRow
+  used-tests used =
+      let t = each (drawableOk (length names) r ∷ nameOk names r ∷ kindOk c k s r hasMask ∷ []) (rw (ne-eqb (r .kind) Kind.unused used) at ok) in
+      (t 0, t 1, t 2)
 
-    go : (n : ℕ) → r .kind ≡ n → Use c names k s r hasMask
-    go zero h = unused h (rw (eq-eqb (r .kind) Kind.unused h) at e)
-    go (suc zero) h =
-        let t =
-        each
-        (drawableOk names r ∷ layerOk c k r hasMask ∷ layerFollows s r ∷ [])
-        (rw (ne-eqb (r .kind) Kind.unused (λ z. omega arith), eq-eqb (r .kind) Kind.layer h) at e) in
-        let l = layer-says c k r hasMask h (t 1) in
-        layer (drawable-says names r (t 0) (rw (l .depth) (depth-deep (r .form) (l .form)))) l (before-layer-says s r (t 2))
-    go (suc (suc zero)) h =
-        let t =
-        each
-        (drawableOk names r ∷ channelOk s r ∷ maskFollows k s r ∷ [])
-        (rw (ne-eqb (r .kind) Kind.unused (λ z. omega arith), ne-eqb (r .kind) Kind.layer (λ z. omega arith), eq-eqb (r .kind) Kind.mask h) at e) in
-        let ch = channel-says s r (t 1) in
-        mask (drawable-says names r (t 0) (one-deep (ch .depth))) ch (mask-says k s r h (t 2))
-    go (suc (suc (suc n))) h =
-        let t =
-        each
-        (isChannel r ∷ drawableOk names r ∷ channelOk s r ∷ channelFollows c k s r ∷ [])
-        (rw (ne-eqb (r .kind) Kind.unused (λ z. omega arith), ne-eqb (r .kind) Kind.layer (λ z. omega arith), ne-eqb (r .kind) Kind.mask (λ z. omega arith)) at e) in
-        let ch = channel-says s r (t 2) in
-        let v = canvas-says c k s r (eqb-true _ _ (t 0)) (t 3) in
-        channel (drawable-says names r (t 1) (one-deep (ch .depth))) ch (v .0) (v .1)
+  used-says : (r .kind ≡ Kind.unused → ⊥) → (1 ≤ r .depth) × (r .depth ≤ depthLimit) → DrawableFacts names r
+  used-says used deep = let t = used-tests used in drawable-says names r (t .0) (t .1) deep
+
+  row-says : Use c names k s r hasMask
+  unfolding usableRow kindOk
+  row-says = go (r .kind) refl
+    where
+      used : {n : ℕ} → r .kind ≡ suc n → r .kind ≡ Kind.unused → ⊥
+      used h z = omega arith
+
+      passed : {n : ℕ} → r .kind ≡ suc n → kindOk c k s r hasMask ≡ true
+      passed h = used-tests (used h) .2
+
+      one-deep : r .depth ≡ 1 → (1 ≤ r .depth) × (r .depth ≤ depthLimit)
+      one-deep h = omega arith
+
+      go : (n : ℕ) → r .kind ≡ n → Use c names k s r hasMask
+      go zero h = unused h (rw (eq-eqb (r .kind) Kind.unused h) at ok)
+      go (suc zero) h =
+          let t = each (layerOk c k r hasMask ∷ layerFollows s r ∷ []) (rw (eq-eqb (r .kind) Kind.layer h) at (passed h)) in
+          let l = layer-says c k r hasMask h (t 0) in
+          layer (used-says (used h) (rw (l .depth) (depth-deep (r .form) (l .form)))) l (before-layer-says s r (t 1))
+      go (suc (suc zero)) h =
+          let t =
+          each
+          (channelOk s r ∷ maskFollows k s r ∷ [])
+          (rw (ne-eqb (r .kind) Kind.layer (λ z. omega arith), eq-eqb (r .kind) Kind.mask h) at (passed h)) in
+          let ch = channel-says s r (t 0) in
+          mask (used-says (used h) (one-deep (ch .depth))) ch (mask-says k s r h (t 1))
+      go (suc (suc (suc n))) h =
+          let t =
+          each
+          (isChannel r ∷ channelOk s r ∷ channelFollows c k s r ∷ [])
+          (rw (ne-eqb (r .kind) Kind.layer (λ z. omega arith), ne-eqb (r .kind) Kind.mask (λ z. omega arith)) at (passed h)) in
+          let ch = channel-says s r (t 1) in
+          let v = canvas-says c k s r (eqb-true _ _ (t 0)) (t 2) in
+          channel (used-says (used h) (one-deep (ch .depth))) ch (v .0) (v .1)
 
 -- the facts of a kind from the row's kind
-module _ {c : Canvas} {names k : ℕ} {s : Seen} {r : Row} {hasMask : Bool} where
+module _ {c : Canvas} {names : List ℕ} {k : ℕ} {s : Seen} {r : Row} {hasMask : Bool} where
   use-listed : Use c names k s r hasMask → r .kind ≤ 3
   use-listed (unused h z) = omega arith
   use-listed (layer d l b) = omega arith
@@ -263,7 +293,7 @@ module _ {c : Canvas} {names k : ℕ} {s : Seen} {r : Row} {hasMask : Bool} wher
   use-channel (mask d ch m) three = absurd (omega arith)
   use-channel (channel d ch v b) three = (v, b)
 
-module _ (c : Canvas) (names : ℕ) (table : List ℕ) (k : ℕ) (ok : usable c names table k ≡ true) where
+module _ (c : Canvas) (names table : List ℕ) (k : ℕ) (ok : usable c names table k ≡ true) where
   pub row-use : Use c names k (seenAt table k) (rowAt table k) (masked table k)
   unfolding usable
   row-use = row-says c names k (seenAt table k) (rowAt table k) (masked table k) ok

@@ -3,11 +3,14 @@ use Prim.Native.Nat.{ℕ, zero, suc, _+_, _*_}
 use mathlib.Core.List.{List, [], _∷_}
 use mathlib.Core.Bool.{Bool, true, cond, not, _&&_, _||_}
 use lib.Dec.{leb, ltb, eqb}
+use lib.ListN.{length}
 use Rattle.xcf_numbers.specs.Limit.{writtenTypeLimit, fullOpacity, modeLimit, layerLimit, channelLimit, nameLimit, tableRows}
 use Rattle.xcf_numbers.specs.Kind
 use Rattle.xcf_numbers.specs.Flag
 use Rattle.xcf_numbers.specs.Flag.{flagOf, flagSet}
+use Rattle.xcf_utf8.specs.Utf8.{wellFormed}
 use Rattle.xcf_table.specs.declared.Row.{Row}
+use Rattle.xcf_table.specs.Name.{nameOf}
 use Rattle.xcf_table.specs.Table.{rowNumbers, unusedRow, rowAt}
 use Rattle.xcf_grid.specs.Grid.{tileCount}
 use Rattle.xcf_table.specs.declared.canvas.Canvas.{Canvas}
@@ -40,12 +43,15 @@ selection r = flagOf (r .flags) Flag.selection
 abbrev pub active : Row → ℕ
 active r = flagOf (r .flags) Flag.active
 
+abbrev pub notUtf8 : Row → ℕ
+notUtf8 r = flagOf (r .flags) Flag.notUtf8
+
 -- no other flags than a layer has, or than a mask or channel has
 abbrev pub layerFlagsOk : Row → Bool
-layerFlagsOk r = eqb (r .flags) (visible r + Flag.apply * apply r + Flag.active * active r)
+layerFlagsOk r = eqb (r .flags) (visible r + Flag.apply * apply r + Flag.active * active r + Flag.notUtf8 * notUtf8 r)
 
 abbrev pub channelFlagsOk : Row → Bool
-channelFlagsOk r = eqb (r .flags) (visible r + Flag.selection * selection r + Flag.active * active r)
+channelFlagsOk r = eqb (r .flags) (visible r + Flag.selection * selection r + Flag.active * active r + Flag.notUtf8 * notUtf8 r)
 
 -- an active layer; an active mask or channel; the selection
 abbrev pub isActiveLayer : Row → Bool
@@ -95,6 +101,10 @@ drawableOk names r =
     && (eqb (r .count) (tileCount (r .width) (r .height))
     && (leb (r .opacity) fullOpacity && (leb (r .namelen) nameLimit && (leb (r .name + r .namelen) names && (eqb (r .list) 0 && eqb (r .pointers) 0))))))
 
+-- the flag says what the name's bytes, among those lent, are
+unfoldable pub nameOk : List ℕ → Row → Bool
+nameOk names r = eqb (notUtf8 r) (cond (wellFormed (nameOf names r)) 0 1)
+
 -- a layer's numbers: its type is 0 to 3 and the image's; it applies a mask only where it has one
 unfoldable pub layerOk : Canvas → ℕ → Row → Bool → Bool
 layerOk c k r hasMask =
@@ -133,22 +143,26 @@ unfoldable pub allZero : List ℕ → Bool
 allZero [] = true
 allZero (n ∷ ns) = eqb n 0 && allZero ns
 
--- row k, behind the rows seen: an unused row is zero
-unfoldable pub usableRow : Canvas → ℕ → ℕ → Seen → Row → Bool → Bool
-usableRow c names k s r hasMask =
-    cond (isUnused r) (allZero (rowNumbers r))
-    (cond (isLayer r) (drawableOk names r && (layerOk c k r hasMask && layerFollows s r))
-    (cond (isMask r) (drawableOk names r && (channelOk s r && maskFollows k s r))
-    (isChannel r && (drawableOk names r && (channelOk s r && channelFollows c k s r)))))
+-- a layer, a mask or a channel as row k, behind the rows seen
+unfoldable pub kindOk : Canvas → ℕ → Seen → Row → Bool → Bool
+kindOk c k s r hasMask =
+    cond (isLayer r) (layerOk c k r hasMask && layerFollows s r)
+    (cond (isMask r) (channelOk s r && maskFollows k s r)
+    (isChannel r && (channelOk s r && channelFollows c k s r)))
 
-unfoldable pub usable : Canvas → ℕ → List ℕ → ℕ → Bool
+-- row k, behind the rows seen: an unused row is zero
+unfoldable pub usableRow : Canvas → List ℕ → ℕ → Seen → Row → Bool → Bool
+usableRow c names k s r hasMask =
+    cond (isUnused r) (allZero (rowNumbers r)) (drawableOk (length names) r && (nameOk names r && kindOk c k s r hasMask))
+
+unfoldable pub usable : Canvas → List ℕ → List ℕ → ℕ → Bool
 usable c names table k = usableRow c names k (seenAt table k) (rowAt table k) (masked table k)
 
 -- of n rows from row k on, the lowest that is not usable, or the row behind them
-unfoldable pub badFrom : Canvas → ℕ → List ℕ → ℕ → ℕ → ℕ
+unfoldable pub badFrom : Canvas → List ℕ → List ℕ → ℕ → ℕ → ℕ
 badFrom c names table zero k = k
 badFrom c names table (suc n) k = cond (usable c names table k) (badFrom c names table n (k + 1)) k
 
 -- the lowest bad row, or the number of rows where all are usable
-unfoldable pub badRow : Canvas → ℕ → List ℕ → ℕ
+unfoldable pub badRow : Canvas → List ℕ → List ℕ → ℕ
 badRow c names table = badFrom c names table tableRows 0

@@ -1,6 +1,8 @@
 // What a row of each kind has to be.
 ghost use mathlib.Core.Path.{_≡_};
-ghost use Rattle.xcf_usable.specs.Usable.{layerFlagsOk, channelFlagsOk, drawableOk, layerOk, layerFollows, channelOk, maskFollows, channelFollows};
+ghost use Prim.Native.Nat.{_+_, _≤_};
+ghost use lib.ListN.{length};
+ghost use Rattle.xcf_usable.specs.Usable.{layerFlagsOk, channelFlagsOk, drawableOk, nameOk, layerOk, layerFollows, channelOk, maskFollows, channelFollows};
 use crate::seen::Seen;
 use crate::seen::is_active_channel;
 use crate::seen::is_active_layer;
@@ -20,8 +22,9 @@ use xcf_table::canvas::Canvas;
 use xcf_table::canvas::depth_of;
 use xcf_table::canvas::side_ok;
 use xcf_table::canvas::type_ok;
+use xcf_utf8::well_formed;
 
-// No flags but visible, apply mask and active.
+// No flags but visible, apply mask, active and that of the name.
 fn layer_flags_ok(row: Row) -> bool
     ensures { λ r. ⌜ r ≡ layerFlagsOk row ⌝ }
 {
@@ -29,10 +32,11 @@ fn layer_flags_ok(row: Row) -> bool
     let visible = flag_of(f, flag::VISIBLE);
     let apply = flag::APPLY * flag_of(f, flag::APPLY);
     let active = flag::ACTIVE * flag_of(f, flag::ACTIVE);
-    f == visible + apply + active
+    let name = flag::NOT_UTF8 * flag_of(f, flag::NOT_UTF8);
+    f == visible + apply + active + name
 }
 
-// No flags but visible, selection and active.
+// No flags but visible, selection, active and that of the name.
 fn channel_flags_ok(row: Row) -> bool
     ensures { λ r. ⌜ r ≡ channelFlagsOk row ⌝ }
 {
@@ -40,7 +44,8 @@ fn channel_flags_ok(row: Row) -> bool
     let visible = flag_of(f, flag::VISIBLE);
     let selection = flag::SELECTION * flag_of(f, flag::SELECTION);
     let active = flag::ACTIVE * flag_of(f, flag::ACTIVE);
-    f == visible + selection + active
+    let name = flag::NOT_UTF8 * flag_of(f, flag::NOT_UTF8);
+    f == visible + selection + active + name
 }
 
 // The numbers of any used row.
@@ -55,6 +60,21 @@ pub(crate) fn drawable_ok(names: usize, row: Row) -> bool
                 & ((row.opacity <= FULL_OPACITY)
                     & ((row.namelen <= NAME_LIMIT)
                         & ((name_end <= names as u64) & ((row.list == 0) & (row.pointers == 0)))))))
+}
+
+// Whether the flag says what the name's bytes are.
+pub(crate) fn name_ok(names: &[u8], row: Row) -> bool
+    requires { ⌜ row .name + row .namelen ≤ length (now names) ⌝ }
+    ensures { λ r. ⌜ r ≡ nameOk (now (names .entry)) row ⌝ }
+{
+    let start = row.name as usize;
+    let end = start + row.namelen as usize;
+    let broken = if well_formed(&names[start..end]) {
+        0
+    } else {
+        1
+    };
+    flag_of(row.flags, flag::NOT_UTF8) == broken
 }
 
 pub(crate) fn layer_ok(canvas: Canvas, k: u32, row: Row, masked: bool) -> bool

@@ -11,9 +11,9 @@ use crate::seen::see;
 use xcf_numbers::limit::TABLE_ROWS;
 use xcf_table::canvas::Canvas;
 
-// The lowest row of the table that is not usable, or 128; names is how many bytes are lent for the names.
-pub fn bad_row(canvas: Canvas, names: usize, table: &[u32]) -> u32
-    ensures { λ r. ⌜ r ≡ badRow canvas names (now (table .entry)) ⌝ }
+// The lowest row of the table that is not usable, or 128; names has the bytes lent for the names.
+pub fn bad_row(canvas: Canvas, names: &[u8], table: &[u32]) -> u32
+    ensures { λ r. ⌜ r ≡ badRow canvas (now (names .entry)) (now (table .entry)) ⌝ }
 {
     let mut k: u32 = 0;
     let mut seen = none(table);

@@ -2,13 +2,14 @@
 ghost use mathlib.Core.Path.{_≡_};
 ghost use Prim.Native.Nat.{_<_};
 ghost use Rattle.xcf_table.specs.Table.{rowNumbers, rowAt};
-ghost use Rattle.xcf_usable.specs.Usable.{masked, allZero, usableRow};
+ghost use Rattle.xcf_usable.specs.Usable.{masked, allZero, kindOk, usableRow};
 use crate::kind::channel_follows;
 use crate::kind::channel_ok;
 use crate::kind::drawable_ok;
 use crate::kind::layer_follows;
 use crate::kind::layer_ok;
 use crate::kind::mask_follows;
+use crate::kind::name_ok;
 use crate::seen::Seen;
 use xcf_numbers::kind;
 use xcf_numbers::limit::ROW_SIZE;
@@ -52,26 +53,33 @@ fn zero_row(table: &[u32], k: u32) -> bool
     true
 }
 
-// Whether a used row is usable behind the rows seen.
-fn used_row(canvas: Canvas, names: usize, k: u32, seen: Seen, row: Row, masked: bool) -> bool
-    requires { ⌜ 0 < row .kind ⌝ }
-    ensures { λ r. ⌜ r ≡ usableRow canvas names k seen row masked ⌝ }
+// Whether a used row is as its kind asks, behind the rows seen.
+fn kind_ok(canvas: Canvas, k: u32, seen: Seen, row: Row, masked: bool) -> bool
+    ensures { λ r. ⌜ r ≡ kindOk canvas k seen row masked ⌝ }
 {
     if row.kind == kind::LAYER {
-        return drawable_ok(names, row)
-            & (layer_ok(canvas, k, row, masked) & layer_follows(seen, row));
+        return layer_ok(canvas, k, row, masked) & layer_follows(seen, row);
     }
-    let ok = drawable_ok(names, row);
     if row.kind == kind::MASK {
-        return ok & (channel_ok(seen, row) & mask_follows(k, seen, row));
+        return channel_ok(seen, row) & mask_follows(k, seen, row);
     }
-    (row.kind == kind::CHANNEL)
-        & (ok & (channel_ok(seen, row) & channel_follows(canvas, k, seen, row)))
+    (row.kind == kind::CHANNEL) & (channel_ok(seen, row) & channel_follows(canvas, k, seen, row))
+}
+
+// Whether a used row is usable behind the rows seen. Its name is looked at only where it lies in the lent bytes.
+fn used_row(canvas: Canvas, names: &[u8], k: u32, seen: Seen, row: Row, masked: bool) -> bool
+    requires { ⌜ 0 < row .kind ⌝ }
+    ensures { λ r. ⌜ r ≡ usableRow canvas (now (names .entry)) k seen row masked ⌝ }
+{
+    if drawable_ok(names.len(), row) {
+        return name_ok(names, row) & kind_ok(canvas, k, seen, row, masked);
+    }
+    false
 }
 
 // Whether row k is usable behind the rows seen.
-pub(crate) fn usable(canvas: Canvas, names: usize, table: &[u32], k: u32, seen: Seen) -> bool
-    ensures { λ r. ⌜ r ≡ usableRow canvas names k seen (rowAt (now (table .entry)) k) (masked (now (table .entry)) k) ⌝ }
+pub(crate) fn usable(canvas: Canvas, names: &[u8], table: &[u32], k: u32, seen: Seen) -> bool
+    ensures { λ r. ⌜ r ≡ usableRow canvas (now (names .entry)) k seen (rowAt (now (table .entry)) k) (masked (now (table .entry)) k) ⌝ }
 {
     let row = row_at(table, k);
     if row.kind == kind::UNUSED {

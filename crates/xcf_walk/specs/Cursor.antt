@@ -2,7 +2,7 @@
 use Prim.Native.Nat.{ℕ, _+_}
 use mathlib.Core.Path.{_≡_}
 use mathlib.Core.List.{List}
-use mathlib.Core.Bool.{Bool, cond}
+use mathlib.Core.Bool.{Bool, true, cond}
 use lib.ListN.{length}
 use lib.Dec.{eqb, leb}
 use Rattle.xcf_numbers.specs.Refusal
@@ -45,7 +45,7 @@ pub record Reads {A : Type 0} (c : Cursor) (w : Walk A) (f : List ℕ) (none : A
 
 -- the values beside a refusal
 abbrev pub noName : Name
-noName = record { place = 0; length = 0 }
+noName = record { place = 0; length = 0; utf8 = true }
 
 abbrev pub noProperty : Property
 noProperty = record { kind = 0; start = 0; place = 0; length = 0; content = noContent }

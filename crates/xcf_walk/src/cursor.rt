@@ -9,6 +9,7 @@ ghost use Rattle.xcf_walk.specs.Fields.{number, word, string};
 ghost use Rattle.xcf_walk.specs.Cursor.{live, checked, jumped, skipped, Reads, noName};
 use xcf_numbers::refusal;
 use xcf_store::word::word_at;
+use xcf_utf8::well_formed;
 
 // A place in a file while the number is 0; else the first fault's number and place, which every further step keeps.
 pub struct Cursor {
@@ -21,10 +22,11 @@ pub struct WordRead {
     pub cursor: Cursor,
 }
 
-// The place of a name's bytes, and their number.
+// The place of a name's bytes, their number, and whether they are well-formed UTF-8.
 pub struct Name {
     pub place: usize,
     pub length: usize,
+    pub utf8: bool,
 }
 
 pub struct NameRead {
@@ -157,14 +159,17 @@ impl Cursor {
                 name: Name {
                     place: 0,
                     length: 0,
+                    utf8: true,
                 },
                 cursor: next,
             };
         }
+        let length = less_one(size);
         NameRead {
             name: Name {
                 place,
-                length: less_one(size),
+                length,
+                utf8: well_formed(&file[place..place + length]),
             },
             cursor: next,
         }

@@ -31,6 +31,10 @@ module _ {f : List ℕ} {S : ℕ → Type 0} where
   pub ensures-weaken : {A : Type 0} {P Q : A → Type 0} {w : Walk A} → ((a : A) → P a → Q a) → Ensures f S P w → Ensures f S Q w
   ensures-weaken h x = record { holds = λ at {a} e s. h a (x .holds at e s) }
 
+  -- two facts of one walk
+  pub ensures-both : {A : Type 0} {P Q : A → Type 0} {w : Walk A} → Ensures f S P w → Ensures f S Q w → Ensures f S (λ a. P a × Q a) w
+  ensures-both x y = record { holds = λ at e s. (x .holds at e s, y .holds at e s) }
+
   pub ensures-bind : {A B : Type 0} {P : A → Type 0} {Q : B → Type 0} {w : Walk A} (k : A → Walk B)
       → Ensures f S P w → ((a : A) → P a → Ensures f S Q (k a)) → Ensures f S Q (w >>= k)
   ensures-bind {w = w} k first rest = record {

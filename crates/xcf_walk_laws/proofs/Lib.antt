@@ -3,3 +3,4 @@ pub mod Refusals
 pub mod Ensures
 pub mod Passes
 pub mod Map
+pub mod Names

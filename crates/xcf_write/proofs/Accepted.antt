@@ -25,7 +25,7 @@ chosen : (b : Bool) (a r : WriteAnswer) → (r .number ≡ 0 → ⊥) → cond b
 chosen true a r h e = (refl, e)
 chosen false a r h e = absurd (h e)
 
-pub record InputAccepted (c : Canvas) (table : List ℕ) (names pixels : ℕ) : Type 0 where
+pub record InputAccepted (c : Canvas) (table names : List ℕ) (pixels : ℕ) : Type 0 where
   pub size : length table ≡ tableSize
   pub wide : sideOk (c .width) ≡ true
   pub high : sideOk (c .height) ≡ true
@@ -33,7 +33,7 @@ pub record InputAccepted (c : Canvas) (table : List ℕ) (names pixels : ℕ) : 
   pub usable : badRow c names table ≡ tableRows
   pub whole : pixels ≡ pixelsSize table (usedRows table) 0
 
-module _ (c : Canvas) (table : List ℕ) (names pixels : ℕ) where
+module _ (c : Canvas) (table names : List ℕ) (pixels : ℕ) where
   rows-accepted : rowsRefusal c table names pixels .number ≡ 0
       → (badRow c names table ≡ tableRows) × (pixels ≡ pixelsSize table (usedRows table) 0)
   unfolding rowsRefusal
@@ -61,7 +61,7 @@ module _ (c : Canvas) (table : List ℕ) (names pixels : ℕ) where
 
 -- an accepted call
 pub record Accepted (c : Canvas) (table names pixels output : List ℕ) : Type 0 where
-  pub input : InputAccepted c table (length names) (length pixels)
+  pub input : InputAccepted c table names (length pixels)
   pub room : length (fileOf c table names pixels) ≤ length output
   pub low : length (fileOf c table names pixels) ≤ fileLimit
   pub size : writing c table names pixels output .answer .length ≡ length (fileOf c table names pixels)
@@ -85,11 +85,11 @@ pub accepted : (c : Canvas) (table names pixels output : List ℕ) → writing c
 unfolding writing writeOutput writeAnswer
 accepted c table names pixels output e =
     let file = fileOf c table names pixels in
-    let refusal = inputRefusal c table (length names) (length pixels) in
+    let refusal = inputRefusal c table names (length pixels) in
     let a = answer-accepted refusal (length file) (length output) e in
     let b = and-eq-true-iff (leb (length file) (length output)) (leb (length file) fileLimit) .0 (a .1) in
     record {
-      input = input-accepted c table (length names) (length pixels) (a .0);
+      input = input-accepted c table names (length pixels) (a .0);
       room = leb-true _ _ (b .0);
       low = leb-true _ _ (b .1);
       size = rw (a .0, b .0, b .1);
@@ -98,7 +98,7 @@ accepted c table names pixels output e =
 
 -- the promise, where the input is refused, and where it is accepted and the file is stored as it fits
 module _ (c : Canvas) (table names pixels old : List ℕ) {refusal : WriteAnswer}
-    (e : refusal ≡ inputRefusal c table (length names) (length pixels)) where
+    (e : refusal ≡ inputRefusal c table names (length pixels)) where
   pub written-refused : (refusal .number ≡ 0 → ⊥) → Written c table names pixels old refusal old
   unfolding writing writeOutput writeAnswer
   written-refused h = record { answer = rw (← e, ne-eqb _ _ h); output = rw (← e, ne-eqb _ _ h, ne-eqb _ _ h) }

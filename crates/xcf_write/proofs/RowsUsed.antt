@@ -50,7 +50,7 @@ module _ (table : List ℕ) where
   used-kind k h = rw zero-add at (kind-from tableRows 0 k h)
 
 -- a table without a bad row
-module _ (c : Canvas) (names : ℕ) (table : List ℕ) (good : badRow c names table ≡ tableRows) where
+module _ (c : Canvas) (names table : List ℕ) (good : badRow c names table ≡ tableRows) where
   pub used-facts : (k : ℕ) → k < usedRows table → DrawableFacts names (rowAt table k)
   used-facts k h =
       drawable-facts c names table k (all-usable c names table good k (omega (arith, used-most table))) (used-kind table k h)
@@ -60,12 +60,12 @@ module _ (c : Canvas) (names : ℕ) (table : List ℕ) (good : badRow c names ta
       let d = used-facts k h in
       record { wide = d .wide; high = d .high; deep = d .deep; count = d .count }
 
-pub ready : (c : Canvas) (table names pixels : List ℕ) → badRow c (length names) table ≡ tableRows
+pub ready : (c : Canvas) (table names pixels : List ℕ) → badRow c names table ≡ tableRows
     → length pixels ≡ pixelsSize table (usedRows table) 0 → RowsReady table names pixels (usedRows table)
 ready c table names pixels good whole = record {
   few = used-most table;
-  range = used-range c (length names) table good;
-  named = λ k h. used-facts c (length names) table good k h .named;
-  short = λ k h. used-facts c (length names) table good k h .short;
+  range = used-range c names table good;
+  named = λ k h. used-facts c names table good k h .named;
+  short = λ k h. used-facts c names table good k h .short;
   whole = whole;
 }

@@ -34,14 +34,14 @@ unfoldable pub fileOf : Canvas → List ℕ → List ℕ → List ℕ → List �
 fileOf c table names pixels = fileBytes c (drawablesFrom table (usedRows table) 0 names pixels)
 
 -- what is refused before the file is made: 17 at the lowest bad row, then 11 for the pixels; else number 0
-unfoldable pub rowsRefusal : Canvas → List ℕ → ℕ → ℕ → WriteAnswer
+unfoldable pub rowsRefusal : Canvas → List ℕ → List ℕ → ℕ → WriteAnswer
 rowsRefusal c table names pixels =
     cond (eqb (badRow c names table) tableRows)
     (cond (eqb pixels (pixelsSize table (usedRows table) 0)) (answered Refusal.accepted 0 0) (answered Refusal.wrongBuffer 0 0))
     (answered Refusal.badRow (badRow c names table) 0)
 
 -- and before that 11 for the table, 4 and 5
-unfoldable pub inputRefusal : Canvas → List ℕ → ℕ → ℕ → WriteAnswer
+unfoldable pub inputRefusal : Canvas → List ℕ → List ℕ → ℕ → WriteAnswer
 inputRefusal c table names pixels =
     cond (eqb (length table) tableSize)
     (cond (sideOk (c .width))
@@ -70,7 +70,7 @@ pub record Writing : Type 0 where
 unfoldable pub writing : Canvas → List ℕ → List ℕ → List ℕ → List ℕ → Writing
 writing c table names pixels output =
     let file = fileOf c table names pixels in
-    let answer = writeAnswer (inputRefusal c table (length names) (length pixels)) (length file) (length output) in
+    let answer = writeAnswer (inputRefusal c table names (length pixels)) (length file) (length output) in
     record { answer = answer; output = writeOutput answer file output }
 
 -- the numbers that it answers

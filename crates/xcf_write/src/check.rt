@@ -26,8 +26,8 @@ const HEIGHT_PLACE: u64 = 18;
 const BASE_PLACE: u64 = 22;
 
 // 17 at the lowest bad row, then 11 where the pixels are not as many as the rows have; or number 0.
-fn rows_refusal(canvas: Canvas, table: &[u32], names: usize, pixels: usize) -> WriteAnswer
-    ensures { λ r. ⌜ r ≡ rowsRefusal canvas (now (table .entry)) names pixels ⌝ }
+fn rows_refusal(canvas: Canvas, table: &[u32], names: &[u8], pixels: usize) -> WriteAnswer
+    ensures { λ r. ⌜ r ≡ rowsRefusal canvas (now (table .entry)) (now (names .entry)) pixels ⌝ }
 {
     let bad = bad_row(canvas, names, table);
     if bad != TABLE_ROWS {
@@ -43,10 +43,10 @@ fn rows_refusal(canvas: Canvas, table: &[u32], names: usize, pixels: usize) -> W
 pub(crate) fn input_refusal(
     canvas: Canvas,
     table: &[u32],
-    names: usize,
+    names: &[u8],
     pixels: usize,
 ) -> WriteAnswer
-    ensures { λ r. ⌜ r ≡ inputRefusal canvas (now (table .entry)) names pixels ⌝ }
+    ensures { λ r. ⌜ r ≡ inputRefusal canvas (now (table .entry)) (now (names .entry)) pixels ⌝ }
 {
     if table.len() != TABLE_SIZE {
         return answered(refusal::WRONG_BUFFER, 0, 0);

@@ -36,7 +36,7 @@ pub fn write(
 ) -> WriteAnswer
     ensures { λ r. ⌜ Written canvas (now (table .entry)) (now (names .entry)) (now (pixels .entry)) (now (output .entry)) r (now (output .exit)) ⌝ }
 {
-    let refused = input_refusal(canvas, table, names.len(), pixels.len());
+    let refused = input_refusal(canvas, table, names, pixels.len());
     if refused.number != 0 {
         return refused;
     }

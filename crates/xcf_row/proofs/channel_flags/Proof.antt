@@ -19,11 +19,27 @@ flag-requires-3 c κs = search needs
 add-result-2 : tie.Need-add-result-2
 add-result-2 c = search needs
 
+name-flag-requires : tie.Need-name-flag-requires
+name-flag-requires c κs = search needs
+
+add-result-3 : tie.Need-add-result-3
+add-result-3 c = search needs
+
 returns : tie.Need-returns
 unfolding channelFlags
-returns c = rw (c .before .before .flag .ensures .0, c .before .flag2 .ensures .0, c .flag3 .ensures .0)
+returns c =
+    let f = c .before in
+    rw (f .before .before .flag .ensures .0, f .before .flag2 .ensures .0, f .flag3 .ensures .0, c .name-flag .ensures .0)
 
 pub channel-flags-spec : {M : Type 1} → statement M
 channel-flags-spec =
     tie.close
-    (tie.spec flag-requires flag-requires-2 add-result flag-requires-3 add-result-2 returns)
+    (tie.spec
+    flag-requires
+    flag-requires-2
+    add-result
+    flag-requires-3
+    add-result-2
+    name-flag-requires
+    add-result-3
+    returns)

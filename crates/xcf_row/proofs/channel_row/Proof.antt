@@ -8,10 +8,7 @@ use Rattle.xcf_row.proofs.channel_row.Tie as tie
 
 -- from the count of tiles to the start
 abbrev begin : tie.After-tile-count → tie.Start
-begin c = c .before .before .before .before .before
-
-cast-t5 : tie.Need-cast-t5
-cast-t5 c = search needs
+begin c = c .before .before .before .before .before .before
 
 cast-t6 : tie.Need-cast-t6
 cast-t6 c = search needs
@@ -22,11 +19,14 @@ cast-t7 c = search needs
 cast-t8 : tie.Need-cast-t8
 cast-t8 c = search needs
 
+cast-t9 : tie.Need-cast-t9
+cast-t9 c = search needs
+
 tile-count-requires : tie.Need-tile-count-requires
 tile-count-requires c κs = search needs
 
-cast-t10 : tie.Need-cast-t10
-cast-t10 c =
+cast-t11 : tie.Need-cast-t11
+cast-t11 c =
     let pre = begin c .pre in
     omega (arith, c .tile-count .ensures, few-tiles _ _ (pre .1) (pre .2))
 
@@ -41,11 +41,11 @@ pub channel-row-spec : {M : Type 1} → statement M
 channel-row-spec =
     tie.close
     (tie.spec
-    cast-t5
     cast-t6
     cast-t7
     cast-t8
+    cast-t9
     tile-count-requires
-    cast-t10
+    cast-t11
     channel-flags-requires
     returns)

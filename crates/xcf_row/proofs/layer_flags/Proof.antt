@@ -33,15 +33,23 @@ flag-requires-4 c κs = search needs
 add-result-3 : tie.Need-add-result-3
 add-result-3 c = search needs
 
+name-flag-requires : tie.Need-name-flag-requires
+name-flag-requires c κs = search needs
+
+add-result-4 : tie.Need-add-result-4
+add-result-4 c = search needs
+
 returns : tie.Need-returns
 unfolding layerFlags
 returns c =
+    let f = c .before in
     rw (
-      c .before .before .before .flag .ensures .0,
-      c .before .before .flag2 .ensures .0,
-      c .before .flag3 .ensures .0,
-      c .flag4 .ensures .0,
-      applies (c .before .before .before .before),
+      f .before .before .before .flag .ensures .0,
+      f .before .before .flag2 .ensures .0,
+      f .before .flag3 .ensures .0,
+      f .flag4 .ensures .0,
+      c .name-flag .ensures .0,
+      applies (f .before .before .before .before),
     )
 
 pub layer-flags-spec : {M : Type 1} → statement M
@@ -55,4 +63,6 @@ layer-flags-spec =
     add-result-2
     flag-requires-4
     add-result-3
+    name-flag-requires
+    add-result-4
     returns)

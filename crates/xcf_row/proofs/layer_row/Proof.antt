@@ -11,13 +11,10 @@ abbrev depth : tie.After-struct-known3 → tie.After-depth-of
 depth c = c .before .before .before
 
 abbrev begin : tie.After-struct-known3 → tie.Start
-begin c = depth c .before .before .before
+begin c = depth c .before .before .before .before
 
 depth-of-requires : tie.Need-depth-of-requires
 depth-of-requires c κs = search needs
-
-cast-t7 : tie.Need-cast-t7
-cast-t7 c = search needs
 
 cast-t8 : tie.Need-cast-t8
 cast-t8 c = search needs
@@ -28,11 +25,14 @@ cast-t9 c = search needs
 cast-t10 : tie.Need-cast-t10
 cast-t10 c = search needs
 
+cast-t11 : tie.Need-cast-t11
+cast-t11 c = search needs
+
 tile-count-requires : tie.Need-tile-count-requires
 tile-count-requires c κs = search needs
 
-cast-t12 : tie.Need-cast-t12
-cast-t12 c =
+cast-t13 : tie.Need-cast-t13
+cast-t13 c =
     let low = begin (c .before) .pre .1 in
     omega (arith, c .tile-count .ensures, few-tiles _ _ (low .width) (low .height))
 
@@ -48,11 +48,11 @@ layer-row-spec =
     tie.close
     (tie.spec
     depth-of-requires
-    cast-t7
     cast-t8
     cast-t9
     cast-t10
+    cast-t11
     tile-count-requires
-    cast-t12
+    cast-t13
     layer-flags-requires
     returns)

@@ -9,7 +9,7 @@ use Rattle.xcf_usable.proofs.row.usable.Tie as tie
 
 -- from an unused row's answer to the start
 abbrev begin : tie.After-zero-row → tie.Start
-begin c = c .before .before .before .before .before
+begin c = c .before .before .before .before .before .before
 
 row-at-requires : tie.Need-row-at-requires
 row-at-requires c κs = search needs

@@ -12,10 +12,10 @@ use Rattle.xcf_write.proofs.check.input_refusal.Tie as tie
 -- what is left where the table and the width are right, by the test of the height
 to-height : (c : tie.After-side-ok2)
     → let wide = c .before .before in
-    let a = wide .before .before .before .args in
-    inputRefusal (a .canvas) (a .table .now) (a .names) (a .pixels)
+    let a = wide .before .before .before .before .args in
+    inputRefusal (a .canvas) (a .table .now) (a .names .now) (a .pixels)
     ≡ cond (c .side-ok2 .result)
-    (cond (leb (a .canvas .base) 1) (rowsRefusal (a .canvas) (a .table .now) (a .names) (a .pixels)) (answered Refusal.badBase basePlace 0))
+    (cond (leb (a .canvas .base) 1) (rowsRefusal (a .canvas) (a .table .now) (a .names .now) (a .pixels)) (answered Refusal.badBase basePlace 0))
     (answered Refusal.badSide heightPlace 0)
 unfolding inputRefusal
 to-height c =

@@ -10,14 +10,14 @@ use Rattle.xcf_write.proofs.check.rows_refusal.Tie as tie
 
 -- from the place where no row is bad to the start
 abbrev begin : tie.Else1 → tie.Start
-begin c = c .before .before .before
+begin c = c .before .before .before .before
 
 -- no row is bad, and then the pixels are counted
-good : (c : tie.Else1) → let a = begin c .args in badRow (a .canvas) (a .names) (a .table .now) ≡ tableRows
+good : (c : tie.Else1) → let a = begin c .args in badRow (a .canvas) (a .names .now) (a .table .now) ≡ tableRows
 good c = sym (c .before .bad-row .ensures) ∙ c .if1 .left
 
 counted : (c : tie.After-pixels-size) → let a = begin (c .before .before) .args in
-    Counted (a .canvas) (a .table .now) (a .names) (c .pixels-size .result)
+    Counted (a .canvas) (a .table .now) (a .names .now) (c .pixels-size .result)
 counted c = record { good = good (c .before .before); whole = rw (c .before .used-rows .ensures .0) at (c .pixels-size .ensures) }
 
 bad-row-requires : tie.Need-bad-row-requires

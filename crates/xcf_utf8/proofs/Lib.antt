@@ -1,0 +1,3 @@
+pub mod Moves
+pub mod Loop
+pub mod Grammar
