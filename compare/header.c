@@ -1,5 +1,5 @@
 /* The header as a C program sees it: the tile of depth 2 of RULES, "Examples" is decoded, what was encoded decodes to itself,
- * and the whole file there is read and listed, its channel decoded, and the file written. */
+ * and the whole file there is read and listed, its channel decoded, and the file written, also with a name in Latin-1. */
 #include "xcf.h"
 
 #include <stddef.h>
@@ -175,6 +175,27 @@ static int writing_fails(void) {
     return memcmp(output, expected, sizeof output) == 0 ? 0 : fails("the file of xcf_write");
 }
 
+/* The channel has a name of one byte that is not UTF-8. */
+static int naming_fails(void) {
+    uint8_t named[sizeof file], output[sizeof file];
+    memcpy(named, file, sizeof file);
+    named[67] = 0xe4;
+    uint32_t table[2048];
+    xcf_read_answer r = xcf_read(named, sizeof named, table, 2048);
+    if (r.number != 0 || table[11] != 1 + 32)
+        return fails("the flag of a name that is not UTF-8");
+
+    const uint8_t pixel = 0xff;
+    table[5] = table[7] = table[8] = 0;
+    xcf_write_answer w = xcf_write(1, 1, 1, table, 2048, named + 67, 1, &pixel, 1, output, sizeof output);
+    if (w.number != 0 || w.length != sizeof named || memcmp(output, named, sizeof named) != 0)
+        return fails("the file with a name that is not UTF-8");
+
+    table[11] = 1;
+    w = xcf_write(1, 1, 1, table, 2048, named + 67, 1, &pixel, 1, output, sizeof output);
+    return refuses(w, 17, 0) ? 0 : fails("the refusal of a name that is not UTF-8 and lacks the flag");
+}
+
 int main(void) {
-    return tiles_fail() || reading_fails() || listing_fails() || decoding_fails() || writing_fails();
+    return tiles_fail() || reading_fails() || listing_fails() || decoding_fails() || writing_fails() || naming_fails();
 }

@@ -119,7 +119,8 @@ typedef struct {
  *   8       where the tile pointers begin
  *   9       number of tiles
  *   10      opacity, at most 255
- *   11      flags, added up: visible 1, apply mask 2, selection 4, active 8, group 16
+ *   11      flags, added up: visible 1, apply mask 2, selection 4, active 8, group 16, and 32 where the name's bytes are not
+ *           well-formed UTF-8 by RFC 3629 (an empty name is well-formed, and a zero byte in a name is a character)
  *   12, 13  offset to the right and down, in two's complement; a mask has those of its layer, and channels have 0
  *   14      mode; masks and channels have 0
  *   15      number of this row, or for a mask that of its layer
@@ -195,8 +196,9 @@ typedef struct {
  *   5, 6   where in names the name begins, and its length: at most 1,024, and the sum of both at most names_length,
  *          also for an empty name
  *   7, 8   0
- *   11     group is never set; apply mask is set only where the next row is a mask; selection is set for one mask or channel
- *          at most, active for one layer at most, and for one mask or channel at most: a further one is the row refused
+ *   11     32 is set exactly where the name's bytes in names are not well-formed UTF-8; group is never set; apply mask is set
+ *          only where the next row is a mask; selection is set for one mask or channel at most, active for one layer at most,
+ *          and for one mask or channel at most: a further one is the row refused
  *   14     at most 21
  *
  * First come the layers, 48 at most, each with its mask, if it has one, in the next row; then the channels, 32 at most. All

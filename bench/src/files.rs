@@ -72,6 +72,20 @@ pub fn refused() -> Vec<u8> {
     with_byte(&EXAMPLE, CLOSING_BYTE, 1)
 }
 
+/// A file of one small layer with this name.
+pub fn named(name: Vec<u8>) -> Vec<u8> {
+    let sides = [64, 64];
+    let layer = Layer {
+        kind: 0,
+        fields: DrawableFields {
+            name,
+            ..white("", sides, 3, Vec::new())
+        },
+        mask: None,
+    };
+    write_file(&image(sides, 0), &[layer], &[])
+}
+
 /// A file of one layer, of depth 1 or 4, with the tiles.
 pub fn one_layer(side: u32, depth: u32, tiles: Vec<Vec<u8>>) -> Vec<u8> {
     let sides = [side; 2];

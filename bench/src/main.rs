@@ -1,10 +1,11 @@
 //! Measures the library's decoder and encoder against plain Rust ones, in one
-//! run, on 4,096 tiles of 64 by 64 pixels; then its reader, on whole files, its
-//! decoder of whole drawables, and its writer; then a file from the disk, also
-//! against ImageMagick.
+//! run, on 4,096 tiles of 64 by 64 pixels; then its reader, on whole files and
+//! on long names, its decoder of whole drawables, and its writer; then a file
+//! from the disk, also against ImageMagick.
 
 mod decoding;
 mod files;
+mod names;
 mod peers;
 mod reading;
 mod turns;
@@ -159,6 +160,8 @@ fn main() {
     }
     println!();
     reading::compare_readers();
+    println!();
+    names::compare_names();
     println!();
     decoding::compare_decoders();
     println!();

@@ -13,6 +13,7 @@ pub mod implementation;
 pub mod library;
 pub mod list;
 pub mod list_cases;
+pub mod names;
 pub mod numbers;
 pub mod pictures;
 mod plain;

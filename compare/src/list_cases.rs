@@ -102,6 +102,7 @@ fn accepted() -> Vec<ListCase> {
     let mut cases = vec![
         ListCase::new("accepted_example", EXAMPLE.to_vec()),
         ListCase::new("accepted_full_table", repeated(48, 32)),
+        ListCase::new("accepted_latin_1", with_byte(&EXAMPLE, 67, 0xE9)),
         ListCase::new("accepted_longest", padded_example(LIST_LIMIT)),
         ListCase::new("accepted_marked_20", marked_20()),
         ListCase::new("accepted_marked_21", marked_21()),

@@ -54,7 +54,7 @@ impl Canvas {
         let (rows, _) = table.as_chunks();
         let rows = Rows {
             canvas: self,
-            names_length: names.len(),
+            names,
             rows,
         };
         let rows = match rows.lowest_bad() {

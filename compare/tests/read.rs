@@ -42,6 +42,7 @@ fn files_agree() {
     let mut random = Random::new(FILES_SEED);
     let mut tally = Tally::default();
     let (mut known_cases, mut rows, mut full_tables) = (0, 0, 0);
+    let mut names = Names::default();
     for _ in 0..FILE_CASES {
         let case = random_case(&mut random);
         let (answer, table) = read_case(&case);
@@ -49,6 +50,7 @@ fn files_agree() {
             assert_known(&case, known, answer, &table);
             known_cases += 1;
         }
+        names.add(&case.file, &table[..16 * answer.rows as usize]);
         rows += answer.rows;
         full_tables += usize::from(answer.rows == 128);
         tally.add(case.kind, answer.number);
@@ -57,10 +59,35 @@ fn files_agree() {
     let accepted = tally.all(0);
     report(&format!(
         "read: {FILE_CASES} files, {accepted} accepted with {rows} rows, {known_cases} known \
-         beforehand, {full_tables} full tables"
+         beforehand, {full_tables} full tables, {names:?}"
     ));
     assert_varied(&tally);
     assert!(known_cases >= 25_000 && rows >= 80_000 && full_tables >= 50);
+    assert!(names.not_utf8 >= 5_000 && names.beyond_ascii >= 5_000 && names.ascii >= 5_000);
+}
+
+/// The names of rows that were read, but for empty ones.
+#[derive(Debug, Default)]
+struct Names {
+    ascii: usize,
+    /// Other names that are well-formed UTF-8.
+    beyond_ascii: usize,
+    not_utf8: usize,
+}
+
+impl Names {
+    fn add(&mut self, file: &[u8], used: &[u32]) {
+        let rows: &[Row] = used.as_chunks().0;
+        for row in rows.iter().filter(|row| row[6] > 0) {
+            let name = &file[row[5] as usize..][..row[6] as usize];
+            let count = match row[11] & 32 {
+                0 if name.is_ascii() => &mut self.ascii,
+                0 => &mut self.beyond_ascii,
+                _ => &mut self.not_utf8,
+            };
+            *count += 1;
+        }
+    }
 }
 
 /// Asserts that every outcome is there often enough to be worth running, and

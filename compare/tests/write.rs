@@ -122,7 +122,7 @@ struct Seen {
     /// Files of version 0, and of version 2.
     versions: [usize; 2],
     /// Drawables of the kinds 1 to 3, of the depths 1 to 4, of the modes, and
-    /// with each of the flags.
+    /// with each of the flags that are stored.
     kinds: [usize; 4],
     depths: [usize; 5],
     modes: [usize; 22],
@@ -133,6 +133,9 @@ struct Seen {
     longest_names: usize,
     /// Names with a zero byte.
     zeros: usize,
+    /// Names that are UTF-8 but not ASCII, and that are neither.
+    beyond_ascii: usize,
+    not_utf8: usize,
 }
 
 impl Seen {
@@ -160,14 +163,18 @@ impl Seen {
         self.ragged += usize::from(is_ragged(row[1]) && is_ragged(row[2]));
         self.empty_names += usize::from(row[6] == 0);
         self.longest_names += usize::from(row[6] == 1_024);
-        self.zeros += usize::from(case.name(row).contains(&0));
+        let (name, is_utf8) = (case.name(row), row[11] & 32 == 0);
+        self.zeros += usize::from(name.contains(&0));
+        self.beyond_ascii += usize::from(is_utf8 && !name.is_ascii());
+        self.not_utf8 += usize::from(!is_utf8);
     }
 
     fn report(&self) {
         report(&format!(
             "written: {} without rows, {} with 128, {} outputs exact, {} longer, versions 0 and 2 \
              {:?}, kinds {:?}, depths {:?}, flags {:?}, {} with several cut tiles both ways, {} \
-             empty names, {} of 1,024 bytes, {} with a zero byte",
+             empty names, {} of 1,024 bytes, {} with a zero byte, {} UTF-8 and not ASCII, {} not \
+             UTF-8",
             self.no_rows,
             self.full_tables,
             self.exact_outputs,
@@ -179,7 +186,9 @@ impl Seen {
             self.ragged,
             self.empty_names,
             self.longest_names,
-            self.zeros
+            self.zeros,
+            self.beyond_ascii,
+            self.not_utf8
         ));
     }
 
@@ -194,6 +203,7 @@ impl Seen {
         assert!(self.flags.iter().all(|&count| count >= 1_500));
         assert!(self.ragged >= 500);
         assert!(self.empty_names >= 3_000 && self.longest_names >= 500 && self.zeros >= 500);
+        assert!(self.beyond_ascii >= 1_500 && self.not_utf8 >= 3_000);
     }
 }
 

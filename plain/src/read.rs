@@ -4,7 +4,9 @@
 mod cursor;
 mod property;
 
-use crate::row::{APPLY_MASK, CHANNEL, DEPTHS, LAYER, MASK, Row, VISIBLE, rows_mut, tile_count};
+use crate::row::{
+    APPLY_MASK, CHANNEL, DEPTHS, LAYER, MASK, Row, VISIBLE, name_flag, rows_mut, tile_count,
+};
 use crate::{FILE_LIMIT, Fault, Refusal};
 use cursor::{Cursor, Read};
 use property::{drawable_list, image_list};
@@ -125,8 +127,12 @@ fn start_row(row: &mut Row, kind: u32, sides: [u32; 2], form: [u32; 2], owner: u
 
 /// Reads a drawable's fields from its name on; gives the hierarchy pointer.
 fn fields(cursor: &mut Cursor, row: &mut Row) -> Read<u32> {
-    [row[5], row[6]] = cursor.name()?;
+    // The length word comes first.
+    row[5] = cursor.place() as u32 + 4;
+    let name = cursor.name()?;
+    row[6] = name.len() as u32;
     row[7] = cursor.place() as u32;
+    row[11] |= name_flag(name);
     drawable_list(cursor, row)?;
     cursor.nonzero_pointer()
 }

@@ -19,6 +19,7 @@ pub const APPLY_MASK: u32 = 2;
 pub const SELECTION: u32 = 4;
 pub const ACTIVE: u32 = 8;
 pub const GROUP: u32 = 16;
+pub const NOT_UTF8: u32 = 32;
 
 /// Bytes per pixel of the layer types 0 to 5.
 pub const DEPTHS: [u32; 6] = [3, 4, 1, 2, 1, 2];
@@ -38,6 +39,14 @@ pub fn rows_mut(table: &mut [u32]) -> Result<&mut [Row], Refusal> {
 /// Whether a canvas or drawable may have the side.
 pub fn is_side(side: u32) -> bool {
     (1..=16_384).contains(&side)
+}
+
+/// The flag that a name's bytes ask for.
+pub fn name_flag(name: &[u8]) -> u32 {
+    match str::from_utf8(name) {
+        Ok(_) => 0,
+        Err(_) => NOT_UTF8,
+    }
 }
 
 /// How many tiles a drawable of such sides has.

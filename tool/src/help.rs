@@ -35,8 +35,9 @@ pub const SHOW: &str = "\
 usage: xcf show FILE
 
 Prints a table of the file's layers, masks and channels: size, type, flags, how
-many tiles are marked, and the name, escaped where it is not printable. For
-each row with marked tiles a map of its grid follows: . good, # marked.
+many tiles are marked, and the name, escaped where it is not printable; one
+whose bytes are not well-formed UTF-8 has the flag `not UTF-8`. For each row
+with marked tiles a map of its grid follows: . good, # marked.
 
 example:
   $ xcf show chart.xcf
@@ -99,7 +100,8 @@ and what is said of an item stands behind it:
                          the canvas's size, 255 where nothing is marked
 
 A band of marks, as `xcf extract` writes it, is not part of the pixels. Where it
-has marked pixels the file is refused, unless --marks keeps the band.
+has marked pixels the file is refused, unless --marks keeps the band. Names are
+bytes, 1,024 at most, in UTF-8 or not.
 
   --canvas WxH  the canvas's size; that of the first item if not said
   --base B      rgb or grey; that of the first layer, else grey, if not said

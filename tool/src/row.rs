@@ -22,12 +22,14 @@ pub mod field {
     pub const OWNER: usize = 15;
 }
 
-/// The flags that can be written.
+/// The flags of rows that are written.
 pub mod flag {
     pub const VISIBLE: u32 = 1;
     pub const APPLY_MASK: u32 = 2;
     pub const SELECTION: u32 = 4;
     pub const ACTIVE: u32 = 8;
+    /// Nothing is stored for it: it tells what the name's bytes are.
+    pub const NOT_UTF8: u32 = 32;
 }
 
 const KIND_WORDS: [&str; 4] = ["unused", "layer", "mask", "channel"];
@@ -40,7 +42,14 @@ const TYPE_WORDS: [&str; 6] = [
     "indexed alpha",
 ];
 /// From the lowest bit on.
-const FLAG_WORDS: [&str; 5] = ["visible", "apply mask", "selection", "active", "group"];
+const FLAG_WORDS: [&str; 6] = [
+    "visible",
+    "apply mask",
+    "selection",
+    "active",
+    "group",
+    "not UTF-8",
+];
 
 /// What a row's drawable is.
 #[derive(Clone, Copy, Debug, PartialEq, Eq)]

@@ -8,6 +8,7 @@ use super::{DEPTHS, Known};
 use crate::answer::ReadAnswer;
 use crate::cases::Shape;
 use crate::cases::drawable::random_window;
+use crate::names::random_name;
 use crate::random::Random;
 
 // These are not shared with the reference: a mistake there must not be one in
@@ -192,7 +193,7 @@ impl Builder {
         owner: Owner,
     ) -> usize {
         let name_offset = block.bytes.len() + 4;
-        let name_count = push_name(random, &mut block);
+        let name = push_name(random, &mut block);
         let properties_offset = block.bytes.len();
         let properties = random_list(random, owner);
         push_list(&mut block, owner, &properties);
@@ -205,7 +206,7 @@ impl Builder {
             layer_type: 2,
             block,
             name_offset,
-            name_count,
+            name,
             properties_offset,
             properties,
             level,
@@ -376,8 +377,8 @@ impl Builder {
     }
 }
 
-/// Appends a string; gives the number of the name's bytes.
-fn push_name(random: &mut Random, block: &mut Block) -> usize {
+/// Appends a string; gives the name.
+fn push_name(random: &mut Random, block: &mut Block) -> Vec<u8> {
     let length = match random.below(4) {
         0 => 0,
         1 => 1,
@@ -385,9 +386,10 @@ fn push_name(random: &mut Random, block: &mut Block) -> usize {
     };
     block.word(FieldKind::NameLength, length as u32);
     if length == 0 {
-        return 0;
+        return Vec::new();
     }
-    block.bytes.extend(random.bytes(length - 1));
+    let name = random_name(random, length - 1);
+    block.bytes.extend(&name);
     block.push(FieldKind::NameEnd, &[0]);
-    length - 1
+    name
 }

@@ -5,6 +5,7 @@ use super::block::Layout;
 use super::property::{Owner, Property, last};
 use crate::answer::Row;
 use crate::cases::Shape;
+use crate::names::name_flag;
 
 /// A layer, channel or mask, and the blocks that it is made of.
 pub struct Drawable {
@@ -14,7 +15,7 @@ pub struct Drawable {
     pub layer_type: u32,
     pub block: usize,
     pub name_offset: usize,
-    pub name_count: usize,
+    pub name: Vec<u8>,
     pub properties_offset: usize,
     pub properties: Vec<Property>,
     pub level: usize,
@@ -38,12 +39,13 @@ impl Drawable {
     /// Field 11 of the row.
     fn flags(&self) -> u32 {
         let if_present = |kind, flag| last(&self.properties, kind).map_or(0, |_| flag);
-        if self.owner == Owner::Layer {
+        let listed = if self.owner == Owner::Layer {
             let apply_mask = self.mask.map_or(0, |_| self.number_or(11, 1));
             self.number_or(8, 1) + 2 * apply_mask + if_present(2, 8) + if_present(29, 16)
         } else {
             self.number_or(8, 0) + if_present(4, 4) + if_present(3, 8)
-        }
+        };
+        listed + name_flag(&self.name)
     }
 
     /// The row of the kind: 1 layer, 2 mask, 3 channel.
@@ -57,7 +59,7 @@ impl Drawable {
             self.shape.depth,
             self.layer_type,
             (start + self.name_offset) as u32,
-            self.name_count as u32,
+            self.name.len() as u32,
             (start + self.properties_offset) as u32,
             (layout.starts[self.level] + 8) as u32,
             tile_count(self.shape) as u32,

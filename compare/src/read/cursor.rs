@@ -26,10 +26,12 @@ impl Word {
     }
 }
 
-/// The place of a name's bytes, and their number without the closing zero.
+/// The place of a name's bytes, their number without the closing zero, and
+/// whether they are well-formed UTF-8.
 pub struct Name {
     pub place: usize,
     pub count: usize,
+    pub is_utf8: bool,
 }
 
 pub struct Cursor<'a> {
@@ -86,9 +88,11 @@ impl<'a> Cursor<'a> {
         let place = self.place;
         let bytes = self.bytes(length.value as usize)?;
         length.tested(matches!(bytes, [] | [.., 0]), UNENDED_STRING)?;
+        let name = bytes.split_last().map_or(bytes, |(_, name)| name);
         Ok(Name {
             place,
-            count: bytes.len().saturating_sub(1),
+            count: name.len(),
+            is_utf8: str::from_utf8(name).is_ok(),
         })
     }
 }

@@ -140,6 +140,7 @@ impl Drawable {
             | u32::from(found.selection) << 2
             | u32::from(found.active) << 3
             | u32::from(found.group) << 4
+            | u32::from(!self.name.is_utf8) << 5
     }
 
     /// The drawable's row in the table; `owner` is its own row, or that of its

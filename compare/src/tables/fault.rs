@@ -60,6 +60,8 @@ pub enum Fault {
     NameLength,
     /// A name that does not lie within the lent bytes.
     NamePlace,
+    /// The flag says of the name that it is UTF-8 where it is not, or the reverse.
+    NameFlag,
     PropertiesPlace,
     TilesPlace,
     TileCount,
@@ -85,7 +87,7 @@ pub enum Fault {
 }
 
 impl Fault {
-    pub const ALL: [Fault; 35] = [
+    pub const ALL: [Fault; 36] = [
         Fault::TableLength,
         Fault::Width,
         Fault::Height,
@@ -105,6 +107,7 @@ impl Fault {
         Fault::OtherType,
         Fault::NameLength,
         Fault::NamePlace,
+        Fault::NameFlag,
         Fault::PropertiesPlace,
         Fault::TilesPlace,
         Fault::TileCount,

@@ -10,6 +10,7 @@ use crate::files::laid::{byte_property, property};
 use crate::files::{
     DEPTHS, DrawableFields, ImageFields, Layer, random_sides, table_of, write_file,
 };
+use crate::names::{name_flag, random_name};
 use crate::random::Random;
 use crate::tile;
 
@@ -89,12 +90,13 @@ impl Picture {
         }
     }
 
-    /// A row without offsets, mode and owner, and with no flag but that it is
-    /// visible.
+    /// A row without offsets, mode and owner, and with no flag but those of
+    /// being visible and of its name.
     fn row(&self, random: &mut Random, kind: u32, sides: [u32; 2], layer_type: u32) -> Row {
         let [width, height] = sides;
         let shape = Shape::new(width, height, DEPTHS[layer_type as usize]);
-        let [name, name_count] = random_name(random, self.names.len());
+        let [name, name_count] = random_part(random, self.names.len());
+        let name_flag = name_flag(&self.names[name..][..name_count]);
         let any = random.below(256) as u32;
         [
             kind,
@@ -108,7 +110,7 @@ impl Picture {
             0,
             tile_count(shape) as u32,
             random.pick(&[0, 255, any]),
-            random.below(2) as u32,
+            random.below(2) as u32 + name_flag,
             0,
             0,
             0,
@@ -248,14 +250,11 @@ fn drawable_sides(random: &mut Random, is_crowded: bool) -> [u32; 2] {
 fn random_names(random: &mut Random) -> Vec<u8> {
     let any = random.below(3_000);
     let length = random.pick(&[0, 1, 30, 1_024, 1_025, any]);
-    match random.below(3) {
-        0 => (0..length).map(|_| random.pick(&[0, b'a', 0xFF])).collect(),
-        _ => random.bytes(length),
-    }
+    random_name(random, length)
 }
 
 /// The place of a name among so many bytes, and the number of its own.
-fn random_name(random: &mut Random, length: usize) -> [usize; 2] {
+fn random_part(random: &mut Random, length: usize) -> [usize; 2] {
     let any = random.between(0, 1_024);
     let count = random.pick(&[0, 0, 1, 7, 20, 1_024, any]).min(length);
     let last = length - count;

@@ -14,6 +14,8 @@ pub const VISIBLE: u32 = 1;
 pub const APPLY_MASK: u32 = 2;
 pub const SELECTION: u32 = 4;
 pub const ACTIVE: u32 = 8;
+/// The name is not well-formed UTF-8.
+const NOT_UTF8: u32 = 32;
 
 /// Bytes per pixel of the layer types 0 to 3.
 const DEPTHS: [u32; 4] = [3, 4, 1, 2];
@@ -21,7 +23,7 @@ const DEPTHS: [u32; 4] = [3, 4, 1, 2];
 /// The rows of a table, and what they must agree with.
 pub struct Rows<'a> {
     pub canvas: &'a Canvas,
-    pub names_length: usize,
+    pub names: &'a [u8],
     pub rows: &'a [Row],
 }
 
@@ -55,12 +57,21 @@ impl<'a> Rows<'a> {
         let row = &self.rows[index];
         self.before(index).iter().all(|row| row[0] != 0)
             && row[1..3].iter().all(|side| (1..=SIDE_LIMIT).contains(side))
-            && row[6] <= LONGEST_NAME
-            && row[5] as usize + row[6] as usize <= self.names_length
+            && self.is_named(index)
             && row[7..9] == [0, 0]
             && row[9] == row[1].div_ceil(64) * row[2].div_ceil(64)
             && row[10] <= 255
-            && row[11] & !(VISIBLE | flag | ACTIVE) == 0
+            && row[11] & !(VISIBLE | flag | ACTIVE | NOT_UTF8) == 0
+    }
+
+    /// Whether a name lies within the lent bytes, is not too long, and is what
+    /// its flag says.
+    fn is_named(&self, index: usize) -> bool {
+        let row = &self.rows[index];
+        let (start, count) = (row[5] as usize, row[6] as usize);
+        let name = self.names.get(start..start + count);
+        let says_utf8 = row[11] & NOT_UTF8 == 0;
+        row[6] <= LONGEST_NAME && name.is_some_and(|name| str::from_utf8(name).is_ok() == says_utf8)
     }
 
     fn is_layer(&self, index: usize) -> bool {

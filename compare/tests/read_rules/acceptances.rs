@@ -334,6 +334,41 @@ fn names() {
     assert_accepted(&file, [70, 2, 0, 3, 1], &rows);
 }
 
+/// The file with a name where there is an empty one, whose length word is given.
+fn named(file: &[u8], length: usize, name: &[u8]) -> Vec<u8> {
+    let mut file = with(file, &[(length, name.len() as u32 + 1)]);
+    file.splice(length + 4..length + 4, [name, &[0]].concat());
+    file
+}
+
+/// A name that is not UTF-8 has a flag beside those of the list, and changes
+/// nothing else.
+#[test]
+fn names_that_are_not_utf8() {
+    for (name, flag) in [
+        (&b"\xE4"[..], 32),
+        (b"Fl\xE4che", 32),
+        (b"\xC3", 32),
+        (b"\xA4\xC3", 32),
+        (b"\xC3\xA4", 0),
+        (b"\0\0", 0),
+    ] {
+        let fields = |list: u32, flags: u32| {
+            let count = name.len() as u32;
+            [(6, count), (7, list + count + 1), (11, flags + flag)]
+        };
+        let list = [property(2, &[]), property(29, &[])].concat();
+        let layer = row_with(LAYER, &fields(98, 1 + 8 + 16));
+        assert_accepted(&named(&grey_layer(&list), 94, name), GREY, &[layer]);
+        let list = property(4, &[]);
+        let rows = [row_with(LAYER, &[(11, 3)]), row_with(MASK, &fields(126, 4))];
+        assert_accepted(&named(&masked_layer(&[], &list), 122, name), GREY, &rows);
+        let list = property(3, &[]);
+        let row = row_with(CHANNEL, &fields(94, 8));
+        assert_accepted(&named(&channel(&list), 90, name), GREY, &[row]);
+    }
+}
+
 /// The largest side, 256 tiles wide; 16,383 takes as many, 16,320 one less.
 #[test]
 fn wide_channel() {

@@ -176,6 +176,11 @@ fn string_before_the_list() {
     let file = with(&layered(), &[(82, 1)]);
     assert_refused(&with_byte(&file, 77, 1), 12, 71);
     assert_refused(&file, 6, 82);
+    // A name that is not UTF-8 is no fault.
+    let file = with_byte(&file, 76, 0xE4);
+    assert_refused(&with_byte(&file, 77, 1), 12, 71);
+    assert_refused(&with_byte(&file, 77, 0xA4), 12, 71);
+    assert_refused(&file, 6, 82);
 }
 
 #[test]

@@ -2,7 +2,7 @@
 
 use xcf_compare::answer::{Row, TABLE_LENGTH};
 use xcf_compare::files::EXAMPLE;
-use xcf_compare::files::laid::{END, byte_property, lay, property, words};
+use xcf_compare::files::laid::{END, byte_property, lay, property, with_byte, words};
 use xcf_compare::implementation::ALL;
 
 use crate::{CHANNEL, Call, LAYER, MASK, ROWS, word};
@@ -172,13 +172,30 @@ fn names() {
     for count in [1, 2, 1_023, 1_024] {
         let names: Vec<u8> = (0..2_000).map(|i| i as u8).collect();
         let named = call.named(&names).with(0, 5, 250).with(0, 6, count);
-        let file = named.file();
+        let file = named.flagged(0, 32).file();
         let count = count as usize;
         assert_eq!(file.len(), 142 + count);
         assert_eq!(word(&file, 63), count as u32 + 1);
         assert_eq!(file[67..67 + count], names[250..250 + count]);
         assert_eq!(file[67 + count..][..9], [0, 0, 0, 0, 6, 0, 0, 0, 4]);
     }
+}
+
+/// For a name that is not UTF-8 only its bytes are others.
+#[test]
+fn names_that_are_not_utf8() {
+    let call = Call::example().named(b"\xE4").flagged(0, 32);
+    assert_eq!(call.file(), with_byte(&EXAMPLE, 67, 0xE4));
+    let call = Call::rows();
+    let mut file = call.file();
+    let latin_1 = call.named(b"L\xE4yer").flagged(0, 32).flagged(2, 32);
+    // The two layers' pointers; a name lies behind three fields and its length.
+    for pointer in [43, 47] {
+        let place = word(&file, pointer) as usize + 16 + 1;
+        assert_eq!(file[place], b'a');
+        file[place] = 0xE4;
+    }
+    assert_eq!(latin_1.file(), file);
 }
 
 /// Names may share bytes, come in any order, and hold zeros.

@@ -54,6 +54,8 @@ fn lowest_row() {
     call.assert_bad(5);
     let call = call.with(4, 14, 1);
     call.assert_bad(4);
+    let call = call.flagged(3, 32);
+    call.assert_bad(3);
     let call = call.with(2, 15, 0);
     call.assert_bad(2);
     let call = call.with(1, 1, 1);

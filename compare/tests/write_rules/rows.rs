@@ -181,6 +181,54 @@ fn places_of_names() {
     call.with(0, 6, 1).assert_bad(0);
 }
 
+/// Flag 32 says of every kind of row whether its name is UTF-8; the bytes before
+/// and behind the name do not matter.
+#[test]
+fn flags_of_names() {
+    for row in 0..5 {
+        let call = Call::rows().named(b"Layer \xC3\xA4\xE4 ");
+        for (place, count, flag) in [
+            (0, 8, 0),
+            (6, 2, 0),
+            (7, 0, 0),
+            (10, 0, 0),
+            (0, 7, 32),
+            (6, 1, 32),
+            (7, 1, 32),
+            (7, 2, 32),
+            (8, 1, 32),
+            (6, 3, 32),
+            (0, 10, 32),
+        ] {
+            let named = call.with(row, 5, place).with(row, 6, count);
+            named.flagged(row, flag).file();
+            named.flagged(row, 32 - flag).assert_bad(row);
+        }
+    }
+}
+
+/// The flag stands beside the others that a row may have, and makes none right.
+#[test]
+fn flags_beside_that_of_the_name() {
+    for (row, own) in [(0, 11), (1, 13), (2, 9), (3, 13), (4, 13)] {
+        let call = Call::rows()
+            .named(b"Layer\x80")
+            .with(row, 5, 5)
+            .with(row, 6, 1)
+            // The one that is active or the selection is the row itself.
+            .with(2, 11, 0)
+            .with(3, 11, 0)
+            .with(4, 11, 0);
+        for flags in (0..64).filter(|flags| flags & !own == 32) {
+            call.with(row, 11, flags).file();
+        }
+        for flags in (0..64).filter(|flags| flags & !own != 32) {
+            call.with(row, 11, flags).assert_bad(row);
+        }
+        call.assert_all_bad(row, 11, &[32 + 64, 32 + 256, 32 + (1 << 31), u32::MAX]);
+    }
+}
+
 /// The places of the properties and of the tile pointers are 0.
 #[test]
 fn places_in_a_file() {
@@ -211,7 +259,7 @@ fn opacities() {
 }
 
 /// Layers are visible, apply a mask, are active; masks and channels are
-/// visible, the selection, active. None is a group.
+/// visible, the selection, active. None is a group, and all names are UTF-8.
 #[test]
 fn flags() {
     for (row, own) in [(0, 11), (1, 13), (2, 11), (3, 13), (4, 13)] {

@@ -4,7 +4,7 @@
 use mathlib.Core.Path.{_≡_, refl}
 use mathlib.Core.Bool.{Bool, true, false, cond, not}
 use Prim.Native.Nat.{ℕ, _≤_, _<_}
-use mathlib.Core.Logic.{_⊎_, inl, inr}
+use mathlib.Core.Logic.{_⊎_, inl, inr, ⊎-elim}
 use borrow.Author.Tests.{leb-true, leb-false}
 use lib.Dec.{leb}
 
@@ -18,6 +18,9 @@ below-or a b = go (leb b a) refl
     go : (t : Bool) → leb b a ≡ t → (a < b) ⊎ (b ≤ a)
     go true e = inr (leb-true b a e)
     go false e = inl (leb-false b a e)
+
+pub by-bound : (a : ℕ) {b : ℕ} {A : Type 0} → (a < b → A) → (b ≤ a → A) → A
+by-bound a {b} f g = ⊎-elim f g (below-or a b)
 
 pub cond-not : {A : Type 0} (b : Bool) (x y : A) → cond (not b) x y ≡ cond b y x
 cond-not true x y = refl

@@ -1,9 +1,11 @@
--- A range test passes exactly what is in its bounds (`within-bounds`, `bounds-within`), and so does the answer of `outside`.
+-- A range test passes exactly what is in its bounds (`within-bounds`, `bounds-within`), and so does the answer of `outside`; it fails
+-- above and below them (`past`, `under`), as two tests of the sides say it (`either-side`, `neither-side`).
 -- Assumes nothing.
 use mathlib.Core.Path.{_≡_, refl, sym, _∙_}
-use mathlib.Core.Bool.{Bool, true, false, not, and-eq-true-iff}
-use Prim.Native.Nat.{ℕ, _≤_}
-use borrow.Author.Tests.{le-leb, leb-true, leb-false, not-true, not-false, lt-ltb, le-ltb}
+use mathlib.Core.Bool.{Bool, true, false, true≢false, not, _&&_, _||_, and-eq-true-iff}
+use mathlib.Core.Logic.{_⊎_, inl, inr}
+use Prim.Native.Nat.{ℕ, _≤_, _<_}
+use borrow.Author.Tests.{le-leb, lt-leb, leb-true, leb-false, not-true, not-false, lt-ltb, le-ltb, ltb-true, ltb-false}
 use lib.Dec.{leb, ltb}
 use Rattle.xcf_range.specs.Range.{within}
 
@@ -28,3 +30,27 @@ module _ (low high x : ℕ) where
 
   pub bounds-within : (low ≤ x) × (x ≤ high) → within low high x ≡ true
   bounds-within b = rw (le-leb low x (b .0), le-leb x high (b .1))
+
+  pub past : high < x → within low high x ≡ false
+  past h = go (leb low x)
+    where
+      go : (t : Bool) → t && leb x high ≡ false
+      go true = lt-leb x high h
+      go false = refl
+
+  pub under : x < low → within low high x ≡ false
+  under h = rw (lt-leb low x h)
+
+  pub either-side : ltb x low || ltb high x ≡ true → (x < low) ⊎ (high < x)
+  either-side = go (ltb x low) refl
+    where
+      go : (t : Bool) → ltb x low ≡ t → t || ltb high x ≡ true → (x < low) ⊎ (high < x)
+      go true e h = inl (ltb-true x low e)
+      go false e h = inr (ltb-true high x h)
+
+  pub neither-side : ltb x low || ltb high x ≡ false → (low ≤ x) × (x ≤ high)
+  neither-side = go (ltb x low) refl
+    where
+      go : (t : Bool) → ltb x low ≡ t → t || ltb high x ≡ false → (low ≤ x) × (x ≤ high)
+      go true e h = absurd (true≢false h)
+      go false e h = (ltb-false x low e, ltb-false high x h)

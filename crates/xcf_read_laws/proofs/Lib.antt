@@ -2,6 +2,7 @@ pub mod Numbers
 pub mod ReaderNumbers
 pub mod Accepted
 pub mod Ranges
+pub mod Flags
 pub mod Names
 pub mod AcceptedRows
 pub mod Accepts

@@ -17,18 +17,18 @@ use Rattle.xcf_table.specs.declared.Row.{Row}
 use Rattle.xcf_table.specs.Table.{unusedRow, rowAt}
 use Rattle.xcf_table.specs.declared.canvas.Canvas.{Canvas}
 use Rattle.xcf_usable.specs.declared.seen.Seen.{Seen}
-use Rattle.xcf_usable.specs.Usable.{isChannel, visible, apply, selection, active, notUtf8, isActiveLayer, isActiveChannel, isSelection, channelFlagsOk, countBefore, seenAt, masked, noSecond, layerOk, layerFollows, channelOk, maskFollows, channelFollows, kindOk, usableRow, usable}
+use Rattle.xcf_usable.specs.Usable.{isChannel, isActiveLayer, isActiveChannel, isSelection, channelFlagsOk, countBefore, seenAt, masked, noSecond, layerOk, layerFollows, channelOk, maskFollows, channelFollows, kindOk, usableRow, usable}
 use Rattle.xcf_usable.proofs.Each.{each}
 use Rattle.xcf_usable.proofs.Counts.{few-pass}
 use Rattle.xcf_usable.proofs.AllUsable.{all-usable}
-use Rattle.xcf_usable.proofs.RowFacts.{DrawableFacts, ChannelFacts, Use, unused, layer, mask, channel, used-tests, row-use}
+use Rattle.xcf_usable.proofs.RowFacts.{DrawableFacts, Use, unused, layer, mask, channel, used-tests, row-use}
 use Rattle.xcf_round_trip.specs.Taken.{RowExcepted, TakenIsExcepted}
 use Rattle.xcf_round_trip.proofs.TableRead.{zero-row}
 use Rattle.xcf_round_trip.proofs.UseTaken.{NoSeconds}
 
 -- a row with its facts
 drawable-excepted : {names : List ℕ} {r : Row} → DrawableFacts names r → r .mode ≤ modeLimit → r .form ≤ writtenTypeLimit
-    → flagOf (r .flags) Flag.group ≡ 0 → RowExcepted names r
+    → r .flags < Flag.group + Flag.notUtf8 * flagOf (r .flags) Flag.notUtf8 → RowExcepted names r
 drawable-excepted d m f g = record {
   short = d .short;
   named = d .named;
@@ -53,24 +53,14 @@ zero-excepted names = record {
   ungrouped = omega arith;
 }
 
--- no group flag in a sum of the others
-no-group : (n v a s w u : ℕ) → v ≤ 1 → a ≤ 1 → s ≤ 1 → w ≤ 1
-    → n ≡ v + Flag.apply * a + Flag.selection * s + Flag.active * w + Flag.notUtf8 * u → flagOf n Flag.group ≡ 0
-no-group n v a s w u v1 a1 s1 w1 e = omega arith
-
 module _ (c : Canvas) (names : List ℕ) (k : ℕ) (s : Seen) (r : Row) (hasMask : Bool) where
-  channel-ungrouped : ChannelFacts r → flagOf (r .flags) Flag.group ≡ 0
-  channel-ungrouped ch =
-      no-group (r .flags) (visible r) 0 (selection r) (active r) (notUtf8 r) (omega arith) (omega arith) (omega arith) (omega arith)
-      (omega (arith, ch .flags))
-
   use-excepted : Use c names k s r hasMask → RowExcepted names r
   use-excepted (unused e z) = rw (zero-row r z) (zero-excepted names)
-  use-excepted (layer d l b) =
-      let none = no-group (r .flags) (visible r) (apply r) 0 (active r) (notUtf8 r) (omega arith) (omega arith) (omega arith) (omega arith) in
-      drawable-excepted d (l .mode) (l .form) (none (omega (arith, l .flags)))
-  use-excepted (mask d ch m) = drawable-excepted d (omega (arith, ch .mode)) (omega (arith, ch .form)) (channel-ungrouped ch)
-  use-excepted (channel d ch v b) = drawable-excepted d (omega (arith, ch .mode)) (omega (arith, ch .form)) (channel-ungrouped ch)
+  use-excepted (layer d l b) = drawable-excepted d (l .mode) (l .form) (omega (arith, l .flags))
+  use-excepted (mask d ch m) =
+      drawable-excepted d (omega (arith, ch .mode)) (omega (arith, ch .form)) (omega (arith, ch .flags))
+  use-excepted (channel d ch v b) =
+      drawable-excepted d (omega (arith, ch .mode)) (omega (arith, ch .form)) (omega (arith, ch .flags))
 
   layer-alone : r .kind ≡ Kind.layer → layerFollows s r ≡ true → NoSeconds s r
   unfolding layerFollows

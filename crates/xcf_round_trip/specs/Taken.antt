@@ -1,6 +1,6 @@
 -- The rows that the writer takes are those that a reader could have given, less what is excepted (RULES, "Usable rows"): of a table
 -- with a reader's rows, and with what is excepted, no row is bad; and where no row is bad, what is excepted holds.
-use Prim.Native.Nat.{ℕ, _+_, _≤_, _<_}
+use Prim.Native.Nat.{ℕ, _+_, _*_, _≤_, _<_}
 use mathlib.Core.Path.{_≡_}
 use mathlib.Core.List.{List}
 use lib.ListN.{length}
@@ -17,7 +17,7 @@ use Rattle.xcf_usable.specs.Usable.{countBefore, isActiveLayer, isActiveChannel
 use Rattle.xcf_round_trip.specs.RoundTrip.{withPlaces}
 
 -- what is asked of each row: a short name among the lent bytes, a flag that says what these bytes of it are, no places in a file, no mode
--- and no type that is not written, no group flag
+-- and no type that is not written, no flag from the group's on but that of the name
 pub record RowExcepted (names : List ℕ) (r : Row) : Type 0 where
   pub short : r .namelen ≤ nameLimit
   pub named : r .name + r .namelen ≤ length names
@@ -26,7 +26,7 @@ pub record RowExcepted (names : List ℕ) (r : Row) : Type 0 where
   pub pointers : r .pointers ≡ 0
   pub mode : r .mode ≤ modeLimit
   pub form : r .form ≤ writtenTypeLimit
-  pub ungrouped : flagOf (r .flags) Flag.group ≡ 0
+  pub ungrouped : r .flags < Flag.group + Flag.notUtf8 * flagOf (r .flags) Flag.notUtf8
 
 -- and of all together: one selection at most, one active layer, one active mask or channel
 pub record RowsExcepted (table : List ℕ) : Type 0 where

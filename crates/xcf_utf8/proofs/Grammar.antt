@@ -2,17 +2,15 @@
 -- (`text-from`); the other way, a character behind which all is well-formed (`character-well-formed`), of one form only, since the
 -- forms rise with their first bytes (`Rising`).
 -- Assumes nothing.
-use Prim.Native.Nat.{ℕ, suc, _≤_, _<_}
+use Prim.Native.Nat.{ℕ, suc, _≤_}
 use mathlib.Core.Path.{_≡_, refl, ap, _∙_}
 use mathlib.Core.List.{List, [], _∷_, _++_, flatten}
 use mathlib.Core.Bool.{Bool, true, false, false≢true, cond, and-eq-true-iff}
-use mathlib.Core.Logic.{_⊎_, inl, inr}
+use mathlib.Core.Logic.{inl, inr}
 use native.Mathlib.Omega.{arith}
-use Rattle.xcf_range.specs.Range.{within}
-use Rattle.xcf_range.proofs.Bounds.{within-bounds, bounds-within}
+use Rattle.xcf_range.proofs.Bounds.{within-bounds, bounds-within, past}
 use Rattle.xcf_utf8.specs.Utf8.{Bytes, in?, forms, begun, wellFormedFrom, wellFormed}
 use Rattle.xcf_utf8.specs.Grammar.{OfForm, OfOne, Characters, Text}
-use Rattle.xcf_utf8.proofs.Moves.{past}
 
 -- a byte that begins a form, and the rest of that form
 record Begins (fs : List (List Bytes)) (b : ℕ) (k : List Bytes → Bool) : Type 0 where

@@ -1,5 +1,6 @@
--- The loop over a name: at its head the name is well-formed if its bytes from byte i on are behind the rest (`Left`). A byte that moves
--- the rest keeps it (`left-next`); it gives the answer where no byte goes on (`left-stuck`) and behind the last byte (`left-over`).
+-- The loops over a name. At the head of the outer one the name is well-formed if its bytes from byte i on are behind the rest (`Left`): a
+-- byte that moves the rest keeps it (`left-next`), and it gives the answer where no byte goes on (`left-stuck`) and behind the last byte
+-- (`left-over`). The inner one passes over ASCII (`passes-none`, `passes-ascii`, `passes-whole`).
 -- Assumes nothing.
 use Prim.Native.Nat.{ℕ, _+_, _≤_, _<_}
 use mathlib.Core.Path.{_≡_, refl, sym, _∙_}
@@ -7,28 +8,45 @@ use mathlib.Core.List.{List, [], _∷_}
 use mathlib.Core.Bool.{Bool, true, false, cond}
 use native.Mathlib.Numerals.{add-one}
 use native.Mathlib.Omega.{arith}
+use borrow.Author.Tests.{eq-eqb}
 use lib.Dec.{eqb}
 use lib.ListN.{length, drop, getD, drop-of-length-le}
 use lib.Seq.{drop-cons}
 use Rattle.xcf_utf8.specs.declared.Rest.{Rest}
 use Rattle.xcf_utf8.specs.Utf8.{Bytes, wellFormedFrom, wellFormed}
-use Rattle.xcf_utf8.specs.Parts.{restOf, Moves, whole}
-use Rattle.xcf_utf8.proofs.Moves.{stuck-false}
+use Rattle.xcf_utf8.specs.Parts.{restOf, Moves, Passes, whole}
+use Rattle.xcf_utf8.proofs.Moves.{moves-ascii, stuck-false}
 
 pub record Left (name : List ℕ) (rest : Rest) (i : ℕ) : Type 0 where
   pub few : i ≤ length name
   pub same : wellFormedFrom (restOf rest) (drop i name) ≡ wellFormed name
 
-pub left-first : (name : List ℕ) → Left name whole 0
+pub passes-none : (name : List ℕ) (r : Rest) {from : ℕ} → from ≤ length name → Passes name r from from
+passes-none name r h = record { on = omega arith; inside = h; same = refl }
+
+pub passes-ascii : {name : List ℕ} {from i : ℕ} → i < length name → getD name i 0 < 0x80 → Passes name whole from i
+    → Passes name whole from (i + 1)
+passes-ascii {name} {i = i} h low p = record {
+  on = omega (arith, p .on);
+  inside = omega arith;
+  same = p .same ∙ rw (drop-cons name i 0 h) (moves-ascii _ low .same _ ∙ rw add-one);
+}
+
+-- whatever the bounds beside it, where no tail is left the character is whole
+pub passes-whole : {name : List ℕ} {r : Rest} {from i : ℕ} → r .tails ≡ 0 → Passes name whole from i → Passes name r from i
 unfolding restOf
-left-first name = record { few = omega arith; same = refl }
+passes-whole {r = r} e p = record { on = p .on; inside = p .inside; same = rw (eq-eqb (r .tails) 0 e) (p .same) }
+
+pub left-first : {name : List ℕ} {i : ℕ} → Passes name whole 0 i → Left name whole i
+unfolding restOf
+left-first p = record { few = p .inside; same = sym (p .same) }
 
 module _ {name : List ℕ} {rest next : Rest} {i : ℕ} (g : Left name rest i) (h : i < length name) (m : Moves rest (getD name i 0) next) where
   behind : wellFormedFrom (restOf next) (drop (i + 1) name) ≡ wellFormed name
   behind = sym (m .same (drop (i + 1) name)) ∙ rw (add-one, ← drop-cons name i 0 h) (g .same)
 
-  pub left-next : Left name next (i + 1)
-  left-next = record { few = omega arith; same = behind }
+  pub left-next : {j : ℕ} → Passes name next (i + 1) j → Left name next j
+  left-next p = record { few = p .inside; same = sym (p .same) ∙ behind }
 
   pub left-stuck : next .high < next .low → false ≡ wellFormed name
   left-stuck none = sym (stuck-false next (m .bounds) none (drop (i + 1) name)) ∙ behind

@@ -5,43 +5,18 @@
 use Prim.Native.Nat.{ℕ, zero, suc, _-_, _≤_, _<_}
 use mathlib.Core.Path.{_≡_, refl, sym, _∙_}
 use mathlib.Core.List.{List, [], _∷_}
-use mathlib.Core.Bool.{Bool, true, false, true≢false, _&&_, _||_}
-use mathlib.Core.Logic.{_⊎_, inl, inr, ⊎-elim}
+use mathlib.Core.Bool.{Bool, true, false, _&&_, _||_}
+use mathlib.Core.Logic.{⊎-elim}
 use native.Mathlib.Omega.{arith}
-use borrow.Author.Tests.{le-leb, lt-leb, lt-ltb, le-ltb, eq-eqb, ne-eqb, ltb-true, ltb-false, eqb-true, eqb-false}
-use lib.Dec.{leb, ltb, eqb}
+use borrow.Author.Tests.{lt-ltb, le-ltb, eq-eqb, ne-eqb}
+use lib.Dec.{ltb}
 use lib.ListN.{replicate}
-use Rattle.xcf_laws.proofs.Cases.{by-cases, below-or}
+use Rattle.xcf_laws.proofs.Cases.{by-cases, by-bound}
 use Rattle.xcf_range.specs.Range.{within}
-use Rattle.xcf_range.proofs.Bounds.{bounds-within}
+use Rattle.xcf_range.proofs.Bounds.{bounds-within, past, under, either-side, neither-side}
 use Rattle.xcf_utf8.specs.declared.Rest.{Rest}
 use Rattle.xcf_utf8.specs.Utf8.{Bytes, tail, forms, begun, wellFormedFrom}
 use Rattle.xcf_utf8.specs.Parts.{restOf, Moves, whole, tailsOf, lowOf, highOf}
-
-pub past : (low high b : ℕ) → high < b → within low high b ≡ false
-past low high b h = go (leb low b)
-  where
-    go : (t : Bool) → t && leb b high ≡ false
-    go true = lt-leb b high h
-    go false = refl
-
-under : (low high b : ℕ) → b < low → within low high b ≡ false
-under low high b h = rw (lt-leb low b h)
-
--- below `low` or above `high`, as a test that was passed or not
-either-side : (low high b : ℕ) → ltb b low || ltb high b ≡ true → (b < low) ⊎ (high < b)
-either-side low high b = go (ltb b low) refl
-  where
-    go : (t : Bool) → ltb b low ≡ t → t || ltb high b ≡ true → (b < low) ⊎ (high < b)
-    go true e h = inl (ltb-true b low e)
-    go false e h = inr (ltb-true high b h)
-
-pub neither-side : (low high b : ℕ) → ltb b low || ltb high b ≡ false → (low ≤ b) × (b ≤ high)
-neither-side low high b = go (ltb b low) refl
-  where
-    go : (t : Bool) → ltb b low ≡ t → t || ltb high b ≡ false → (low ≤ b) × (b ≤ high)
-    go true e h = absurd (true≢false h)
-    go false e h = (ltb-false b low e, ltb-false high b h)
 
 -- what the code says of a first byte from C2 to F4
 abbrev pub behind : ℕ → Rest
@@ -49,9 +24,6 @@ behind b = record { tails = tailsOf b; low = lowOf b; high = highOf b }
 
 abbrev pub broken : Rest
 broken = record { tails = 1; low = 0xFF; high = 0x00 }
-
-split : (b : ℕ) {n : ℕ} {A : Type 0} → (b < n → A) → (n ≤ b → A) → A
-split b {n} f g = ⊎-elim f g (below-or b n)
 
 module _ (b : ℕ) (k : List Bytes → Bool) where
   one : b < 0x80 → begun forms b k ≡ k []
@@ -110,12 +82,12 @@ module _ (b : ℕ) (k : List Bytes → Bool) where
   unfolding begun restOf
   three lo hi =
       rw (past 0 0x7F b (omega arith), past 0xC2 0xDF b (omega arith), le-ltb b 0xE0 lo, lt-ltb b 0xF0 hi)
-      (split b {n = 0xE1}
+      (by-bound b {b = 0xE1}
       (λ below. let e : b ≡ 0xE0 = omega arith in rw e)
-      (λ above. rw (past 0xE0 0xE0 b (omega arith)) (split b {n = 0xED}
+      (λ above. rw (past 0xE0 0xE0 b (omega arith)) (by-bound b {b = 0xED}
       (λ below.
       rw (bounds-within 0xE1 0xEC b (omega arith), any-low (λ e. omega arith) (λ e. omega arith), any-high (λ e. omega arith) (λ e. omega arith)))
-      (λ above. rw (past 0xE1 0xEC b (omega arith)) (split b {n = 0xEE}
+      (λ above. rw (past 0xE1 0xEC b (omega arith)) (by-bound b {b = 0xEE}
       (λ below. let e : b ≡ 0xED = omega arith in rw e)
       (λ above.
       rw (past 0xED 0xED b (omega arith), bounds-within 0xEE 0xEF b (omega arith), any-low (λ e. omega arith) (λ e. omega arith), any-high (λ e. omega arith) (λ e. omega arith))))))))
@@ -133,20 +105,20 @@ module _ (b : ℕ) (k : List Bytes → Bool) where
         le-ltb b 0xE0 (omega arith),
         le-ltb b 0xF0 lo,
       )
-      (split b {n = 0xF1}
+      (by-bound b {b = 0xF1}
       (λ below. let e : b ≡ 0xF0 = omega arith in rw e)
-      (λ above. rw (past 0xF0 0xF0 b (omega arith)) (split b {n = 0xF4}
+      (λ above. rw (past 0xF0 0xF0 b (omega arith)) (by-bound b {b = 0xF4}
       (λ below.
       rw (bounds-within 0xF1 0xF3 b (omega arith), any-low (λ e. omega arith) (λ e. omega arith), any-high (λ e. omega arith) (λ e. omega arith)))
       (λ above. let e : b ≡ 0xF4 = omega arith in rw e))))
 
   first : 0xC2 ≤ b → b ≤ 0xF4 → begun forms b k ≡ k (restOf (behind b))
-  first lo hi = split b (two lo) (λ x. split b (three x) (λ y. four y hi))
+  first lo hi = by-bound b (two lo) (λ x. by-bound b (three x) (λ y. four y hi))
 
 -- no byte goes on where low is above high
 module _ (r : Rest) (bounds : r .tails ≡ 0 → r .low ≤ r .high) (h : r .high < r .low) where
   none-within : (b : ℕ) → within (r .low) (r .high) b ≡ false
-  none-within b = split b (under (r .low) (r .high) b) (λ above. past (r .low) (r .high) b (omega arith))
+  none-within b = by-bound b (under (r .low) (r .high) b) (λ above. past (r .low) (r .high) b (omega arith))
 
   pub stuck-false : (bs : List ℕ) → wellFormedFrom (restOf r) bs ≡ false
   unfolding restOf wellFormedFrom

@@ -12,13 +12,16 @@ OfForm [] (b ∷ bs) = ⊥
 OfForm (s ∷ form) [] = ⊥
 OfForm (s ∷ form) (b ∷ bs) = ((s .low ≤ b) × (b ≤ s .high)) × OfForm form bs
 
+-- of one of some forms
 abbrev pub OfOne : List (List Bytes) → List ℕ → Type 0
 OfOne [] bs = ⊥
 OfOne (form ∷ fs) bs = OfForm form bs ⊎ OfOne fs bs
 
+-- each of them a character
 abbrev pub Characters : List (List ℕ) → Type 0
 Characters [] = Unit {0}
 Characters (c ∷ cs) = OfOne forms c × Characters cs
 
+-- characters one after another
 abbrev pub Text : List ℕ → Type 0
 Text bs = (cs : List (List ℕ)) × Characters cs × (flatten cs ≡ bs)

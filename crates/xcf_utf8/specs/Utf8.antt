@@ -11,7 +11,7 @@ pub record Bytes : Type 0 where
 
 infix 70 _to_
 abbrev pub _to_ : ℕ → ℕ → Bytes
-low to high = record { low = low; high = high }
+_to_ low high = record { low = low; high = high }
 
 abbrev pub only : ℕ → Bytes
 only b = b to b

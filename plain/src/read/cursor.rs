@@ -87,13 +87,12 @@ impl<'a> Cursor<'a> {
         self.tested_word(Fault::ZeroPointer, |pointer| pointer != 0)
     }
 
-    /// The place of a name and the number of its bytes.
-    pub fn name(&mut self) -> Read<[u32; 2]> {
+    /// The bytes of a name, which end before the zero that closes it.
+    pub fn name(&mut self) -> Read<&'a [u8]> {
         let length = self.word()? as usize;
-        let place = self.place();
         match self.bytes(length)? {
-            [] => Ok([place as u32, 0]),
-            [.., 0] => Ok([place as u32, length as u32 - 1]),
+            [] => Ok(&[]),
+            [name @ .., 0] => Ok(name),
             _ => Err(self.refusal(Fault::UnendedString, length + 4)),
         }
     }

@@ -2,7 +2,8 @@
 
 use super::Lent;
 use crate::row::{
-    ACTIVE, APPLY_MASK, CHANNEL, DEPTHS, LAYER, MASK, Row, SELECTION, VISIBLE, is_side, tile_count,
+    ACTIVE, APPLY_MASK, CHANNEL, DEPTHS, LAYER, MASK, NOT_UTF8, Row, SELECTION, VISIBLE, is_side,
+    name_flag, tile_count,
 };
 
 /// What the rows before one have used up.
@@ -42,9 +43,7 @@ impl Lent<'_> {
         if tests.unused || !is_side(row[1]) || !is_side(row[2]) {
             return false;
         }
-        let name_end = u64::from(row[5]) + u64::from(row[6]);
-        let shared = row[6] <= 1_024
-            && name_end <= self.names.len() as u64
+        let shared = self.pass_name(row)
             && (row[7], row[8]) == (0, 0)
             && row[9] == tile_count(row[1], row[2])
             && row[10] <= 255;
@@ -57,6 +56,14 @@ impl Lent<'_> {
             }
     }
 
+    /// Whether a name lies among the lent bytes, is short enough, and is what its
+    /// flag says.
+    fn pass_name(&self, row: &Row) -> bool {
+        let [start, length] = [row[5], row[6]].map(|number| number as usize);
+        let name = self.names.get(start..start + length);
+        length <= 1_024 && name.is_some_and(|name| row[11] & NOT_UTF8 == name_flag(name))
+    }
+
     fn pass_layer(&self, tests: &mut Tests, index: usize) -> bool {
         let row = &self.rows[index];
         tests.layers += 1;
@@ -64,7 +71,7 @@ impl Lent<'_> {
             && tests.channels == 0
             && row[4] >> 1 == self.base
             && DEPTHS.get(row[4] as usize) == Some(&row[3])
-            && row[11] & !(VISIBLE | APPLY_MASK | ACTIVE) == 0
+            && row[11] & !(VISIBLE | APPLY_MASK | ACTIVE | NOT_UTF8) == 0
             && (row[11] & APPLY_MASK == 0 || self.has_mask(index))
             && set_once(&mut tests.active_layer, row[11] & ACTIVE != 0)
             && row[14] <= 21
@@ -102,7 +109,7 @@ impl Lent<'_> {
 /// The tests that masks and channels share.
 fn pass_channel_numbers(tests: &mut Tests, row: &Row) -> bool {
     (row[3], row[4], row[14]) == (1, 2, 0)
-        && row[11] & !(VISIBLE | SELECTION | ACTIVE) == 0
+        && row[11] & !(VISIBLE | SELECTION | ACTIVE | NOT_UTF8) == 0
         && set_once(&mut tests.selection, row[11] & SELECTION != 0)
         && set_once(&mut tests.active_channel, row[11] & ACTIVE != 0)
 }

@@ -3,6 +3,7 @@
 use super::Fault;
 use crate::answer::Row;
 use crate::files::DEPTHS;
+use crate::names::NOT_UTF8;
 use crate::numbers::{above, bad_side, other, other_side, other_type};
 use crate::random::Random;
 use crate::tables::TableCase;
@@ -34,13 +35,14 @@ pub fn spoil(fault: Fault, random: &mut Random, case: &mut TableCase) -> Option<
             let beyond = above(random, names_length.saturating_sub(row[6]));
             row[5] = random.pick(&[beyond, beyond, wrapping]);
         }
+        Fault::NameFlag => row[11] ^= NOT_UTF8,
         Fault::PropertiesPlace => row[7] = other(random, 0),
         Fault::TilesPlace => row[8] = other(random, 0),
         Fault::TileCount => row[9] = other(random, row[9]),
         Fault::Opacity => row[10] = above(random, 255),
         Fault::Flag => {
             let others = if row[0] == 1 { 4 } else { 2 };
-            let any = 1 << random.between(4, 31);
+            let any = 1 << random.between(6, 31);
             row[11] |= random.pick(&[others, 16, any]);
         }
         Fault::Apply => row[11] |= 2,

@@ -1,5 +1,4 @@
 -- `name_flag` meets its contract: a well-formed name has no flag, any other its own.
-use mathlib.Core.Path.{refl}
 use native.Mathlib.Omega.{arith}
 use Rattle.xcf_row.specs.Row.{nameFlag}
 use Rattle.xcf_row.proofs.name_flag.Statement.{statement}

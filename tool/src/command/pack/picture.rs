@@ -88,9 +88,13 @@ impl Picture {
         Ok(())
     }
 
+    /// Adds a row with its name, of which a flag tells whether it is UTF-8.
     fn add_row(&mut self, mut row: Row, name: &[u8]) {
         row[field::NAME_PLACE] = self.names.len() as u32;
         row[field::NAME_LENGTH] = name.len() as u32;
+        if str::from_utf8(name).is_err() {
+            row[field::FLAGS] |= flag::NOT_UTF8;
+        }
         self.names.extend_from_slice(name);
         self.rows.push(row);
     }

@@ -1,7 +1,7 @@
 -- `string` meets its contract: its walk's do block step by step (`leads`); beside a refusal stands no name. Of the bytes read the name is
 -- the first ones (`take-take`), which lie in the file (`inside`).
 use Prim.Native.Nat.{_+_, _-_, _≤_}
-use mathlib.Core.Path.{_≡_, refl, sym}
+use mathlib.Core.Path.{_≡_, refl}
 use native.Mathlib.Omega.{arith}
 use borrow.Author.Needs.{needs}
 use lib.ListN.{length, take}
