@@ -2,15 +2,17 @@
 -- to be well-formed exactly as its bytes are, and a row's flags tell it (`layer-told`, `channel-told`).
 -- Assumes nothing.
 use Prim.Native.Nat.{ℕ}
-use mathlib.Core.Path.{_∙_}
+use mathlib.Core.Path.{_≡_, _∙_}
 use mathlib.Core.List.{List}
 use Rattle.xcf_property.specs.Property.{layerList}
 use Rattle.xcf_walk.specs.Walk.{here}
-use Rattle.xcf_walk.specs.Fields.{number}
+use Rattle.xcf_store.specs.Word.{part}
+use Rattle.xcf_utf8.specs.Utf8.{wellFormed}
+use Rattle.xcf_walk.specs.declared.cursor.Name.{Name}
+use Rattle.xcf_walk.specs.Fields.{number, string}
 use Rattle.xcf_walk.specs.Property.{properties}
-use Rattle.xcf_walk_laws.specs.Name.{SaysUtf8}
+use Rattle.xcf_walk.proofs.Within.{got-string}
 use Rattle.xcf_walk_laws.proofs.Ensures.{Ensures, ensures-done, ensures-bind, ensures-next}
-use Rattle.xcf_walk_laws.proofs.Names.{ensures-string}
 use Rattle.xcf_parse.specs.declared.drawable.Fields.{Fields}
 use Rattle.xcf_parse.specs.declared.drawable.Layer.{Layer}
 use Rattle.xcf_parse.specs.declared.drawable.Owner.{Owner}
@@ -19,6 +21,10 @@ use Rattle.xcf_parse.specs.Drawable.{side, sideLike, layerType, fields, layer, 
 use Rattle.xcf_row.specs.Row.{layerRow, channelRow}
 use Rattle.xcf_table.specs.Name.{Told}
 use Rattle.xcf_read_laws.proofs.Flags.{layer-bits, channel-bits}
+
+-- a string's name is said to be well-formed as its bytes in the file f are
+abbrev pub SaysUtf8 : List ℕ → Name → Type 0
+SaysUtf8 f name = name .utf8 ≡ wellFormed (part f (name .place) (name .length))
 
 module _ (f : List ℕ) where
   pub layer-told : (x : Layer) (tiles k : ℕ) → SaysUtf8 f (x .fields .name) → Told f (layerRow x tiles k)
@@ -30,6 +36,9 @@ module _ (f : List ℕ) where
   channel-told o x tiles says = channel-bits (x .properties) (x .name) .name ∙ rw says
 
 module _ {f : List ℕ} {S : ℕ → Type 0} where
+  ensures-string : Ensures f S (SaysUtf8 f) string
+  ensures-string = record { holds = λ at e s. got-string f at e .2 }
+
   ensures-fields-name : (size list : ℕ) → Ensures f S (λ x. SaysUtf8 f (x .name)) (fields size list)
   unfolding fields
   ensures-fields-name size list =

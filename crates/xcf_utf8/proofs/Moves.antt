@@ -10,7 +10,7 @@ use mathlib.Core.Logic.{⊎-elim}
 use native.Mathlib.Omega.{arith}
 use borrow.Author.Tests.{lt-ltb, le-ltb, eq-eqb, ne-eqb}
 use lib.Dec.{ltb}
-use lib.ListN.{replicate}
+use lib.ListN.{drop, replicate}
 use Rattle.xcf_laws.proofs.Cases.{by-cases, by-bound}
 use Rattle.xcf_range.specs.Range.{within}
 use Rattle.xcf_range.proofs.Bounds.{bounds-within, past, under, either-side, neither-side}
@@ -45,9 +45,10 @@ module _ (b : ℕ) (k : List Bytes → Bool) where
         under 0xF4 0xF4 b (omega arith),
       )
 
-  past-all : 0xF4 < b → begun forms b k ≡ false
+  -- above EF the forms of four bytes are left
+  beyond-three : 0xEF < b → begun forms b k ≡ begun (drop 6 forms) b k
   unfolding begun
-  past-all h =
+  beyond-three h =
       rw (
         past 0 0x7F b (omega arith),
         past 0xC2 0xDF b (omega arith),
@@ -55,10 +56,11 @@ module _ (b : ℕ) (k : List Bytes → Bool) where
         past 0xE1 0xEC b (omega arith),
         past 0xED 0xED b (omega arith),
         past 0xEE 0xEF b (omega arith),
-        past 0xF0 0xF0 b (omega arith),
-        past 0xF1 0xF3 b (omega arith),
-        past 0xF4 0xF4 b h,
       )
+
+  past-all : 0xF4 < b → begun forms b k ≡ false
+  unfolding begun
+  past-all h = beyond-three (omega arith) ∙ rw (past 0xF0 0xF0 b (omega arith), past 0xF1 0xF3 b (omega arith), past 0xF4 0xF4 b h)
 
   -- the second byte is any tail, but for four first bytes
   any-low : (b ≡ 0xE0 → ⊥) → (b ≡ 0xF0 → ⊥) → lowOf b ≡ 0x80
@@ -95,16 +97,7 @@ module _ (b : ℕ) (k : List Bytes → Bool) where
   four : 0xF0 ≤ b → b ≤ 0xF4 → begun forms b k ≡ k (restOf (behind b))
   unfolding begun restOf
   four lo hi =
-      rw (
-        past 0 0x7F b (omega arith),
-        past 0xC2 0xDF b (omega arith),
-        past 0xE0 0xE0 b (omega arith),
-        past 0xE1 0xEC b (omega arith),
-        past 0xED 0xED b (omega arith),
-        past 0xEE 0xEF b (omega arith),
-        le-ltb b 0xE0 (omega arith),
-        le-ltb b 0xF0 lo,
-      )
+      beyond-three (omega arith) ∙ rw (le-ltb b 0xE0 (omega arith), le-ltb b 0xF0 lo)
       (by-bound b {b = 0xF1}
       (λ below. let e : b ≡ 0xF0 = omega arith in rw e)
       (λ above. rw (past 0xF0 0xF0 b (omega arith)) (by-bound b {b = 0xF4}

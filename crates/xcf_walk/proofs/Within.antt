@@ -1,7 +1,7 @@
 -- The bounds that a caller needs of the cursors on its way: a live cursor came from a live one, by steps that were taken. A walk
 -- taken up by a cursor that starts at a place leads to one that says what the walk gives there (`led-refused`, `led-live`).
 -- Assumes nothing.
-use Prim.Native.Nat.{ℕ, _+_, _≤_, _<_}
+use Prim.Native.Nat.{ℕ, _+_, _-_, _≤_, _<_}
 use mathlib.Core.Path.{_≡_, refl, sym, _∙_, ap}
 use mathlib.Core.List.{List}
 use mathlib.Core.Bool.{Bool, true, false, cond}
@@ -9,11 +9,13 @@ use native.Mathlib.Omega.{arith}
 use borrow.Author.Tests.{eqb-true, eqb-false}
 use lib.Dec.{eqb}
 use lib.ListN.{length}
+use lib.Seq.{take-take}
 use Rattle.xcf_numbers.specs.Refusal
 use Rattle.xcf_walk.specs.declared.cursor.Cursor.{Cursor}
 use Rattle.xcf_walk.specs.declared.cursor.Name.{Name}
 use Rattle.xcf_walk.specs.Walk.{Walk, got, refused, run, bytes, here, must}
 use Rattle.xcf_store.specs.Word.{part, bigEndian}
+use Rattle.xcf_utf8.specs.Utf8.{wellFormed}
 use Rattle.xcf_walk.specs.Fields.{number, word, string}
 use Rattle.xcf_walk.specs.Cursor.{checked, outcome, resume, Leads, Reads, noName}
 use Rattle.xcf_laws.proofs.Cases.{cond-same}
@@ -76,8 +78,9 @@ pub number-within : (size : ℕ) {c d : Cursor} {f : List ℕ} {v : ℕ} → Lea
     → (d .at ≡ c .at + size) × (d .at ≤ length f) × (v ≡ bigEndian 0 (part f (c .at) size))
 number-within size {c} {f = f} l h = let g = got-number size f (c .at) (live-run l h) in (g .0, omega (arith, g .0, g .1), g .2)
 
--- a string: its bytes and its end lie in the file
-pub got-string : (f : List ℕ) (at : ℕ) {name : Name} {q : ℕ} → got name q ≡ run string f at → (name .place + name .length ≤ length f) × (q ≤ length f)
+-- a string: its bytes and its end lie in the file, and it says of these bytes whether they are well-formed
+pub got-string : (f : List ℕ) (at : ℕ) {name : Name} {q : ℕ} → got name q ≡ run string f at
+    → (name .place + name .length ≤ length f) × (q ≤ length f) × (name .utf8 ≡ wellFormed (part f (name .place) (name .length)))
 unfolding string
 got-string f at e =
     let p = parted here _ f at e in
@@ -85,10 +88,13 @@ got-string f at e =
     let s = parted here _ f _ (n .rest) in
     let b = parted (bytes (n .value)) _ f _ (s .rest) in
     let m = parted (must _ Refusal.unendedString _) _ f _ (b .rest) in
+    let stood = got-here f (n .place) (s .first) in
+    let start : s .value ≡ s .place = stood .1 ∙ sym (stood .0) in
     let passed = got-bytes f (s .place) (n .value) (b .first) in
     let end = got-done f (m .place) (m .rest) in (
-      omega (arith, got-here f (n .place) (s .first), passed .1, ap (λ x. x .place) (end .1), ap (λ x. x .length) (end .1)),
+      omega (arith, stood, passed .1, ap (λ x. x .place) (end .1), ap (λ x. x .length) (end .1)),
       omega (arith, passed .0, passed .1, got-must f (b .place) _ Refusal.unendedString _ (m .first) .0, end .0),
+      rw (end .1, passed .2, start, take-take (n .value - 1) (n .value) _ (omega arith)),
     )
 
 pub string-within : {c d : Cursor} {f : List ℕ} {name : Name} → Reads c string f noName d name

@@ -3,4 +3,3 @@ pub mod Refusals
 pub mod Ensures
 pub mod Passes
 pub mod Map
-pub mod Names
