@@ -6,7 +6,7 @@ use Prim.Native.Nat.{ℕ, zero, suc, _-_, _≤_, _<_}
 use mathlib.Core.Path.{_≡_, refl, sym, _∙_}
 use mathlib.Core.List.{List, [], _∷_}
 use mathlib.Core.Bool.{Bool, true, false, _&&_, _||_}
-use mathlib.Core.Logic.{⊎-elim}
+use mathlib.Core.Logic.{_⊎_, ⊎-elim}
 use native.Mathlib.Omega.{arith}
 use borrow.Author.Tests.{lt-ltb, le-ltb, eq-eqb, ne-eqb}
 use lib.Dec.{ltb}
@@ -125,20 +125,21 @@ pub moves-ascii : (b : ℕ) → b < 0x80 → Moves whole b whole
 unfolding wellFormedFrom restOf
 moves-ascii b h = record { same = λ bs. one b _ h; bounds = λ _. omega arith }
 
-pub moves-nowhere : (b : ℕ) → 0x80 ≤ b → ltb b 0xC2 || ltb 0xF4 b ≡ true → Moves whole b broken
+-- no form begins from 80 to C1, nor above F4
+pub moves-nowhere : (b : ℕ) → 0x80 ≤ b → (b < 0xC2) ⊎ (0xF4 < b) → Moves whole b broken
 unfolding wellFormedFrom restOf
 moves-nowhere b high out = record {
-  same = λ bs. ⊎-elim (under-all b _ high) (past-all b _) (either-side 0xC2 0xF4 b out) ∙ sym (broken-false bs);
+  same = λ bs. ⊎-elim (under-all b _ high) (past-all b _) out ∙ sym (broken-false bs);
   bounds = λ e. absurd (omega arith);
 }
 
 some-tails : (b : ℕ) → tailsOf b ≡ 0 → ⊥
 some-tails b = by-cases (λ (n : ℕ). n ≡ 0 → ⊥) (ltb b 0xE0) _ _ (λ _ e. omega arith) (λ _. by-cases (λ (n : ℕ). n ≡ 0 → ⊥) (ltb b 0xF0) _ _ (λ _ e. omega arith) (λ _ e. omega arith))
 
-pub moves-first : (b : ℕ) → ltb b 0xC2 || ltb 0xF4 b ≡ false → Moves whole b (behind b)
+pub moves-first : (b : ℕ) → 0xC2 ≤ b → b ≤ 0xF4 → Moves whole b (behind b)
 unfolding wellFormedFrom restOf
-moves-first b within = record {
-  same = λ bs. let h = neither-side 0xC2 0xF4 b within in first b (λ rest. wellFormedFrom rest bs) (h .0) (h .1);
+moves-first b lo hi = record {
+  same = λ bs. first b (λ rest. wellFormedFrom rest bs) lo hi;
   bounds = λ e. absurd (some-tails b e);
 }
 
