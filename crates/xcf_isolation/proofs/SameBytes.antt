@@ -13,7 +13,8 @@ use Rattle.xcf_read.specs.Image.{structureByte}
 use Rattle.xcf_read.specs.Answer.{Reading, reading, rowOf}
 use Rattle.xcf_read_laws.proofs.ReadDepends.{read-depends}
 use Rattle.xcf_window.specs.Window.{InWindow}
-use Rattle.xcf_isolation.specs.Isolation.{IsTile, Damaged}
+use Rattle.xcf_isolation.specs.Tiles.{IsTile}
+use Rattle.xcf_isolation.specs.Isolation.{Damaged}
 
 equal-unless : (a b : ℕ) → ((a ≡ b → ⊥) → ⊥) → a ≡ b
 equal-unless a b h = go (eqb a b) refl

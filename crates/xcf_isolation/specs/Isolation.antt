@@ -2,23 +2,16 @@
 use Prim.Native.Nat.{ℕ, _<_}
 use mathlib.Core.Path.{_≡_}
 use mathlib.Core.List.{List}
-use mathlib.Core.Bool.{true}
 use lib.ListN.{length, getD}
 use Rattle.xcf_table.specs.declared.Row.{Row}
 use Rattle.xcf_grid.specs.Grid.{tileWidth, tileHeight}
 use Rattle.xcf_tile_laws.specs.Valid.{GoodWhenValid}
-use Rattle.xcf_store.specs.Pointer.{pointerSize}
 use Rattle.xcf_read.specs.Image.{structureByte}
 use Rattle.xcf_read.specs.Answer.{Reading, reading, rowOf}
 use Rattle.xcf_window.specs.Window.{window, InWindow, tile}
 use Rattle.xcf_grid.specs.Pixels.{shown}
-use Rattle.xcf_window.specs.Usable.{fits}
-use Rattle.xcf_decode.specs.Answer.{Decoding, decoding}
-
--- tile t of row k is a tile of the file: rows have their own tiles even if they share pointers
-pub record IsTile (x : Reading) (k t : ℕ) : Type 0 where
-  pub row : k < x .answer .rows
-  pub tile : t < rowOf x k .count
+use Rattle.xcf_decode.specs.Answer.{Decoding}
+use Rattle.xcf_isolation.specs.Tiles.{pointerSizeOf, IsTile, decodingGiven, Fit}
 
 -- byte i lies in the window of a chosen tile
 pub record InChosen (size : ℕ) (f : List ℕ) (x : Reading) (Chosen : ℕ → ℕ → Type 0) (i : ℕ) : Type 0 where
@@ -49,19 +42,18 @@ pub record RowIsolated (size : ℕ) (g : List ℕ) (r : Row) (compression : ℕ)
       → GoodWhenValid (window size g r t) (tileWidth (r .width) t) (tileHeight (r .width) (r .height) t) (r .depth) compression
       (getD (e .marks) t 0) (shown (r .width) (r .height) (r .depth) t (e .pixels))
 
--- g is read as f was, and its rows are isolated: the decoder is lent a file, what the reader gave for that file, and buffers that
--- fit, with any content
-pub record Isolated (f g lent : List ℕ) (Chosen : ℕ → ℕ → Type 0) : Type 0 where
-  pub read : reading g lent ≡ reading f lent
-  pub rows : (k : ℕ) → k < reading f lent .answer .rows → (pixels marks pixels' marks' : List ℕ)
-      → fits (rowOf (reading f lent) k) (length pixels) (length marks) ≡ true
-      → fits (rowOf (reading g lent) k) (length pixels') (length marks') ≡ true
-      → RowIsolated pointerSize g (rowOf (reading f lent) k) (reading f lent .answer .compression) (Chosen k)
-      (decoding pointerSize f (reading f lent .table) k (reading f lent .answer .compression) pixels marks)
-      (decoding pointerSize g (reading g lent .table) k (reading g lent .answer .compression) pixels' marks')
+-- g is read as f was, and its rows are isolated: the decoder is lent a file, what the reader gave for that file, x for f and y for g,
+-- and buffers that fit, with any content
+pub record Isolated (size : ℕ) (f g : List ℕ) (x y : Reading) (Chosen : ℕ → ℕ → Type 0) : Type 0 where
+  pub read : y ≡ x
+  pub rows : (k : ℕ) → k < x .answer .rows → (pixels marks pixels' marks' : List ℕ) → Fit x k pixels marks → Fit y k pixels' marks'
+      → RowIsolated size g (rowOf x k) (x .answer .compression) (Chosen k) (decodingGiven size f x k pixels marks)
+      (decodingGiven size g y k pixels' marks')
 
 -- any file that is accepted, any choice of its tiles
 abbrev pub Isolation : Type 1
 Isolation =
-    (f g lent : List ℕ) (Chosen : ℕ → ℕ → Type 0) → reading f lent .answer .number ≡ 0
-    → Damaged pointerSize f g (reading f lent) Chosen → Isolated f g lent Chosen
+    (f g lent : List ℕ) (Chosen : ℕ → ℕ → Type 0) →
+    let x = reading f lent in
+    let size = pointerSizeOf x in
+    x .answer .number ≡ 0 → Damaged size f g x Chosen → Isolated size f g x (reading g lent) Chosen

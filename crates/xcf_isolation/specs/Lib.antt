@@ -1,1 +1,3 @@
+pub mod Tiles
+pub mod Kept
 pub mod Isolation

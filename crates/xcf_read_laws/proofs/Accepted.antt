@@ -1,5 +1,6 @@
 -- The reader's number is 0 exactly where the walk gives an image (`accepted-exactly`): a refusal has a number of the list, and 0 is not
--- in it. Then the lent table and the file are no wrong size (`accepted-sized`), and the reading is the walk's (`read-walked`).
+-- in it. Then the lent table and the file are no wrong size (`accepted-sized`), what the table held does not matter
+-- (`accepted-any-table`), and the reading is the walk's (`read-walked`).
 -- Assumes nothing.
 use Prim.Native.Nat.{ℕ, _≤_}
 use mathlib.Core.Path.{_≡_, refl, sym, _∙_, ap}
@@ -28,6 +29,12 @@ accepted-sized f lent =
   where
     Says : Reading → Type 0
     Says x = x .answer .number ≡ 0 → (length lent ≡ tableSize) × (length f ≤ fileLimit)
+
+-- then what the lent table held does not matter
+pub accepted-any-table : (f lent other : List ℕ) → reading f lent .answer .number ≡ 0 → length other ≡ tableSize → reading f other ≡ reading f lent
+unfolding reading
+accepted-any-table f lent other accepted size =
+    let s = accepted-sized f lent accepted in rw (eq-eqb _ _ size, eq-eqb _ _ (s .0), le-leb _ _ (s .1))
 
 -- what a walk gives, a reading gives
 pub read-walked : (f lent : List ℕ) {x : Image} {q : ℕ} → length lent ≡ tableSize → length f ≤ fileLimit → run (image pointerSize) f 0 ≡ got x q

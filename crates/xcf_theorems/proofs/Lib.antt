@@ -1,7 +1,10 @@
+pub mod ExampleWalks
 pub mod ExampleRead
 pub mod ExampleMaps
 pub mod ExampleWritten
+pub mod OneByte
 pub mod ExampleDamaged
+pub mod ExampleKept
 pub mod ListerNumbers
 pub mod ExampleListed
 pub mod WriterNumbers

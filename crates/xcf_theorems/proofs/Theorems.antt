@@ -34,6 +34,7 @@ use Rattle.xcf_decode_laws.proofs.Counted.{count-decoded, marks-counted}
 use Rattle.xcf_decode_laws.proofs.Refused.{decoder-listed, counter-listed}
 use Rattle.xcf_decode_laws.proofs.TilesGood.{drawable-good-when-valid}
 use Rattle.xcf_decode_laws.proofs.RowDecoded.{row-decoded}
+use Rattle.xcf_isolation.proofs.Kept.{good-tile-kept, good-tiles-kept}
 use Rattle.xcf_isolation.proofs.Isolated.{isolated}
 use Rattle.xcf_theorems.proofs.WriterNumbers.{writer-listed}
 use Rattle.xcf_theorems.proofs.ListerNumbers.{lister-listed, lister-as-reader}
@@ -45,7 +46,8 @@ use Rattle.xcf_theorems.proofs.ExampleRead.{example-read, latin-read}
 use Rattle.xcf_theorems.proofs.ExampleWritten.{example-written, latin-refused}
 use Rattle.xcf_theorems.proofs.ExampleListed.{example-listed}
 use Rattle.xcf_theorems.proofs.ExampleDamaged.{example-damaged}
-use Rattle.xcf_theorems.specs.Statements.{ReaderRefusalsAreListed, RefusalsAreListed, PassedBytesDecide, DecoderRefusalsAreListed, CounterRefusalsAreListed, TileRefusalsAreListed, MarksAreListed, EncoderRefusalsAreListed, WriterRefusalsAreListed, ListerRefusalsAreListed, ListerAnswersAsTheReader, AcceptedWithoutFault, ColourMapsAreTaken, ExampleMapsAreRead, WellFormedIsText, NamesAreTold, ExampleNameIsTold, AcceptedRowsDecode, TileGoodWhenValid, DrawableTilesGoodWhenValid, CountIsOfTheMarks, CountIsTheDecoders, PixelsAreWhole, MarkedPixelsAreZero, PixelsAreStreams, PixelsAreTheirTiles, EachPixelHasOneTile, TilesAreShown, WrittenReadsBack, GivenRowsAreTaken, TakenRowsAreExcepted, EncodedStreamBounded, StreamReadsBack, TileReadsBack, EncodedTileFits, DamageIsIsolated, ExampleIsDamaged, StructureBytesDecide, ConsumedBytesDecide, ConsumedBytesDecideTheCall, ExamplesHold, ExampleFileIsRead, ExampleFileIsWritten, ExampleFileIsListed}
+use Rattle.xcf_theorems.proofs.ExampleKept.{example-kept}
+use Rattle.xcf_theorems.specs.Statements.{ReaderRefusalsAreListed, RefusalsAreListed, PassedBytesDecide, DecoderRefusalsAreListed, CounterRefusalsAreListed, TileRefusalsAreListed, MarksAreListed, EncoderRefusalsAreListed, WriterRefusalsAreListed, ListerRefusalsAreListed, ListerAnswersAsTheReader, AcceptedWithoutFault, ColourMapsAreTaken, ExampleMapsAreRead, WellFormedIsText, NamesAreTold, ExampleNameIsTold, AcceptedRowsDecode, TileGoodWhenValid, DrawableTilesGoodWhenValid, CountIsOfTheMarks, CountIsTheDecoders, PixelsAreWhole, MarkedPixelsAreZero, PixelsAreStreams, PixelsAreTheirTiles, EachPixelHasOneTile, TilesAreShown, WrittenReadsBack, GivenRowsAreTaken, TakenRowsAreExcepted, EncodedStreamBounded, StreamReadsBack, TileReadsBack, EncodedTileFits, DamageIsIsolated, ExampleIsDamaged, GoodTileIsKept, GoodTilesAreKept, ExampleTileIsKept, StructureBytesDecide, ConsumedBytesDecide, ConsumedBytesDecideTheCall, ExamplesHold, ExampleFileIsRead, ExampleFileIsWritten, ExampleFileIsListed}
 
 -- ## Any bytes
 
@@ -164,6 +166,15 @@ damage-is-isolated = isolated
 
 pub example-is-damaged : ExampleIsDamaged
 example-is-damaged = example-damaged
+
+pub good-tile-is-kept : GoodTileIsKept
+good-tile-is-kept = good-tile-kept
+
+pub good-tiles-are-kept : GoodTilesAreKept
+good-tiles-are-kept = good-tiles-kept
+
+pub example-tile-is-kept : ExampleTileIsKept
+example-tile-is-kept = example-kept
 
 pub passed-bytes-decide : PassedBytesDecide
 passed-bytes-decide A = outcome-depends

@@ -7,7 +7,7 @@ use lib.ListN.{take, set, replicate}
 use Rattle.xcf_numbers.specs.Mark
 use Rattle.xcf_store.specs.Pointer.{pointerSize}
 use Rattle.xcf_read.specs.Answer.{reading}
-use Rattle.xcf_decode.specs.Answer.{decoding}
+use Rattle.xcf_isolation.specs.Tiles.{decodingGiven}
 use Rattle.xcf_isolation.specs.Isolation.{Damaged}
 use Rattle.xcf_theorems.specs.ExampleFile.{exampleFile}
 
@@ -29,7 +29,7 @@ FirstTile k t = (k ≡ 0) × (t ≡ 0)
 pub record DamagedExample (lent pixels marks : List ℕ) : Type 0 where
   pub accepted : reading wideFile lent .answer .number ≡ 0
   pub damaged : Damaged pointerSize wideFile damagedFile (reading wideFile lent) FirstTile
-  pub good : decoding pointerSize wideFile (reading wideFile lent .table) 0 (reading wideFile lent .answer .compression) pixels marks
+  pub good : decodingGiven pointerSize wideFile (reading wideFile lent) 0 pixels marks
       ≡ record { answer = record { number = 0; place = 0; marked = 0 }; pixels = replicate 64 255 ++ (7 ∷ []); marks = 0 ∷ 0 ∷ [] }
-  pub marked : decoding pointerSize damagedFile (reading damagedFile lent .table) 0 (reading damagedFile lent .answer .compression) pixels marks
+  pub marked : decodingGiven pointerSize damagedFile (reading damagedFile lent) 0 pixels marks
       ≡ record { answer = record { number = 0; place = 0; marked = 1 }; pixels = replicate 64 0 ++ (7 ∷ []); marks = Mark.short ∷ 0 ∷ [] }

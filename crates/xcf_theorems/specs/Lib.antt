@@ -2,4 +2,5 @@ pub mod Examples
 pub mod ExampleFile
 pub mod MapExample
 pub mod DamagedExample
+pub mod KeptExample
 pub mod Statements

@@ -36,6 +36,7 @@ use Rattle.xcf_grid.specs.Pixels.{HasPixel, tileAt, byteOf, byteIn, pixelsOf, s
 use Rattle.xcf_window.specs.Window.{window}
 use Rattle.xcf_window.specs.Usable.{fits}
 use Rattle.xcf_decode.specs.Answer.{decoderNumbers, nonzero, rowDecoding, decoding, counting}
+use Rattle.xcf_isolation.specs.Kept.{GoodTileKept, GoodTilesKept}
 use Rattle.xcf_isolation.specs.Isolation.{Isolation}
 use Rattle.xcf_table.specs.declared.canvas.Canvas.{Canvas}
 use Rattle.xcf_write.specs.Answer.{writing, writerNumbers}
@@ -45,6 +46,7 @@ use Rattle.xcf_round_trip.specs.Taken.{GivenIsTaken, TakenIsExcepted}
 use Rattle.xcf_theorems.specs.DamagedExample.{DamagedExample}
 use Rattle.xcf_theorems.specs.ExampleFile.{exampleNamed, exampleFile, exampleFlagged, exampleRow, exampleTable, exampleListing}
 use Rattle.xcf_theorems.specs.Examples.{table, All}
+use Rattle.xcf_theorems.specs.KeptExample.{KeptExample}
 use Rattle.xcf_theorems.specs.MapExample.{mapFile}
 
 -- ## Any bytes
@@ -294,6 +296,22 @@ DamageIsIsolated = Isolation
 abbrev pub ExampleIsDamaged : Type 0
 ExampleIsDamaged =
     (lent pixels marks : List ℕ) → length lent ≡ tableSize → length pixels ≡ 65 → length marks ≡ 2 → DamagedExample lent pixels marks
+
+-- Only the bytes that count: for one length of the file, a good tile depends on the structure bytes and on the bytes that it consumed.
+-- Where a second file agrees with an accepted one on these, it is read the same, and the tile is good in it, with the same pixels, bytes
+-- consumed and operations, whatever else differs; in full in `xcf_isolation/specs/Kept.antt`.
+abbrev pub GoodTileIsKept : Type 0
+GoodTileIsKept = GoodTileKept
+
+-- So the structure bytes and what the good tiles consumed decide all that is read and all that is shown of the good tiles.
+abbrev pub GoodTilesAreKept : Type 0
+GoodTilesAreKept = GoodTilesKept
+
+-- Such are two files that differ in one byte of the window of the first tile, behind what it consumed. Isolation says nothing of that
+-- tile; it is kept, and the second tile, which has that byte, is good in one file and marked in the other.
+abbrev pub ExampleTileIsKept : Type 1
+ExampleTileIsKept =
+    (lent pixels marks : List ℕ) → length lent ≡ tableSize → length pixels ≡ 1 → length marks ≡ 1 → KeptExample lent pixels marks
 
 -- What any walk gives depends on the file's length and on the bytes that it passes over.
 abbrev pub PassedBytesDecide : Type 1

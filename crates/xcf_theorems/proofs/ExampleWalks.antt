@@ -1,0 +1,55 @@
+-- What the walk gives for the example files, and that it does not pass over the byte in which two of them differ: the rules at their
+-- bytes, computed.
+-- Assumes nothing.
+use Prim.Native.Nat.{ℕ}
+use mathlib.Core.Path.{_≡_, refl}
+use mathlib.Core.List.{List, [], _∷_, _++_}
+use mathlib.Core.Bool.{false}
+use Rattle.xcf_utf8.specs.Utf8.{begun, wellFormedFrom}
+use Rattle.xcf_walk.specs.Walk.{Outcome, got, run, bytes, here, must, fileLength, jump, loop, turns}
+use Rattle.xcf_store.specs.Word.{bigEndian, wordOf}
+use Rattle.xcf_walk.specs.Fields.{number, word, string}
+use Rattle.xcf_property.specs.Property.{lengthOk, contentOf, isColourMap, isFloating, lacksMap, allowed, activeType, put}
+use Rattle.xcf_walk.specs.Property.{payload, content, property, propertyTurn, properties}
+use Rattle.xcf_walk.specs.Pointers.{pointers, tiles}
+use Rattle.xcf_walk_laws.proofs.Passes.{passes}
+use Rattle.xcf_table.specs.Table.{addRow}
+use Rattle.xcf_parse.specs.Header.{same, versionIn, header}
+use Rattle.xcf_parse.specs.Hierarchy.{agrees, pointer, restTurn, rest, hierarchy}
+use Rattle.xcf_store.specs.Pointer.{pointerSize}
+use Rattle.xcf_table.specs.Canvas.{sideOk}
+use Rattle.xcf_parse.specs.Drawable.{side, sideLike, fields, channel}
+use Rattle.xcf_row.specs.Row.{flag, nameFlag, channelFlags, channelRow, channelOwner}
+use Rattle.xcf_read.specs.Drawable.{channelRows, canvasChannelRows}
+use Rattle.xcf_parse.specs.Image.{baseOk, baseType, head}
+use Rattle.xcf_read.specs.Image.{Image, drawables, canvasOf, image}
+use Rattle.xcf_theorems.specs.ExampleFile.{exampleNamed, exampleFile, exampleFlagged}
+use Rattle.xcf_theorems.specs.DamagedExample.{wideFile}
+use Rattle.xcf_theorems.specs.KeptExample.{pairFile}
+
+-- a grey canvas one pixel high with so many channels, whose walk ends at a place
+abbrev pub grey : ℕ → ℕ → List ℕ → ℕ → Outcome Image
+grey width count numbers end = got (record {
+  head = record { version = 0; width = width; height = 1; base = 1; compression = 1 };
+  rows = record { count = count; numbers = numbers };
+}) end
+
+abbrev pub wideRow : List ℕ
+wideRow = 3 ∷ 65 ∷ 1 ∷ 1 ∷ 2 ∷ 67 ∷ 1 ∷ 69 ∷ 133 ∷ 2 ∷ 255 ∷ 1 ∷ 0 ∷ 0 ∷ 0 ∷ 0 ∷ []
+
+abbrev pub pairRows : List ℕ
+pairRows =
+    (3 ∷ 1 ∷ 1 ∷ 1 ∷ 2 ∷ 71 ∷ 1 ∷ 73 ∷ 137 ∷ 1 ∷ 255 ∷ 1 ∷ 0 ∷ 0 ∷ 0 ∷ 0 ∷ [])
+    ++ (3 ∷ 1 ∷ 1 ∷ 1 ∷ 2 ∷ 159 ∷ 1 ∷ 161 ∷ 225 ∷ 1 ∷ 255 ∷ 1 ∷ 0 ∷ 0 ∷ 0 ∷ 1 ∷ [])
+
+pub record Walks : Type 0 where
+  pub example : run (image pointerSize) exampleFile 0 ≡ grey 1 1 (exampleFlagged 1) 141
+  pub latin : run (image pointerSize) (exampleNamed 0xE9) 0 ≡ grey 1 1 (exampleFlagged 33) 141
+  pub wide : run (image pointerSize) wideFile 0 ≡ grey 65 1 wideRow 145
+  pub wideFree : passes (image pointerSize) wideFile 0 145 ≡ false
+  pub pair : (opcode : ℕ) → run (image pointerSize) (pairFile opcode) 0 ≡ grey 1 2 pairRows 233
+  pub pairFree : (opcode : ℕ) → passes (image pointerSize) (pairFile opcode) 0 233 ≡ false
+
+pub walks : Walks
+unfolding passes run bytes here must fileLength jump loop turns bigEndian number word begun wellFormedFrom string lengthOk wordOf contentOf payload isColourMap content property isFloating lacksMap allowed activeType put propertyTurn properties addRow same versionIn header agrees pointer restTurn rest tiles hierarchy sideOk side sideLike fields channel flag nameFlag channelFlags channelRow channelOwner channelRows canvasChannelRows baseOk baseType head pointers drawables canvasOf image
+walks = record { example = refl; latin = refl; wide = refl; wideFree = refl; pair = λ _. refl; pairFree = λ _. refl }
