@@ -159,6 +159,22 @@ pub struct ReadAnswer {
 }
 
 impl ReadAnswer {
+    /// An image's five numbers (sides, base, version, compression) and how many
+    /// rows it has.
+    pub const fn accepted(image: [u64; 5], rows: usize) -> Self {
+        let [width, height, base, version, compression] = image;
+        ReadAnswer {
+            number: 0,
+            place: 0,
+            width,
+            height,
+            base,
+            version,
+            compression,
+            rows: rows as u64,
+        }
+    }
+
     pub fn refused(number: u64, place: usize) -> Self {
         ReadAnswer {
             number,

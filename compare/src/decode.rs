@@ -154,12 +154,16 @@ impl Drawable {
             .collect()
     }
 
+    /// The width, height and depth of a tile.
+    pub fn tile_shape(&self, tile: usize) -> [u32; 3] {
+        let Area { columns, lines } = self.area(tile);
+        [columns.len(), lines.len(), self.depth].map(|number| number as u32)
+    }
+
     /// A tile's mark and its bytes, from its window.
     fn decode_tile(&self, tile: usize, window: &[u8]) -> (u8, Vec<u8>) {
-        let Area { columns, lines } = self.area(tile);
-        let (width, height) = (columns.len() as u32, lines.len() as u32);
-        let mut bytes = vec![0; columns.len() * lines.len() * self.depth];
-        let depth = self.depth as u32;
+        let [width, height, depth] = self.tile_shape(tile);
+        let mut bytes = vec![0; (width * height * depth) as usize];
         let answer = tile::decode_tile(window, width, height, depth, self.compression, &mut bytes);
         assert_eq!(answer.number, 0, "every tile of a drawable is usable");
         (answer.mark as u8, bytes)

@@ -32,19 +32,14 @@ pub fn read(result: Result<Image, Refusal>) -> ReadAnswer {
         Ok(image) => image,
         Err(refusal) => return ReadAnswer::refused(number(refusal), refusal.place),
     };
-    let [width, height] = [image.width, image.height].map(u64::from);
-    let [base, version, compression] =
-        [image.base, image.version, image.compression].map(u64::from);
-    ReadAnswer {
-        number: 0,
-        place: 0,
-        width,
-        height,
-        base,
-        version,
-        compression,
-        rows: image.rows as u64,
-    }
+    let numbers = [
+        image.width,
+        image.height,
+        image.base,
+        image.version,
+        image.compression,
+    ];
+    ReadAnswer::accepted(numbers.map(u64::from), image.rows)
 }
 
 /// The answer to decoding a drawable of so many marked tiles.

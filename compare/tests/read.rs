@@ -298,16 +298,7 @@ fn most_sharing() {
     assert_eq!(case.file.len(), 262_594);
     let (answer, table) = read_case(&case);
     let known = Known {
-        answer: ReadAnswer {
-            number: 0,
-            place: 0,
-            width: 16_384,
-            height: 16_384,
-            base: 1,
-            version: 0,
-            compression: 0,
-            rows: 128,
-        },
+        answer: ReadAnswer::accepted([16_384, 16_384, 1, 0, 0], 128),
         rows: most_shared_rows(),
     };
     assert_known(&case, &known, answer, &table);

@@ -22,16 +22,7 @@ const TILE_POINTER: u32 = 390;
 const FIRST_CHANNEL: usize = 96;
 
 /// The answer to reading such a file.
-const READ: ReadAnswer = ReadAnswer {
-    number: 0,
-    place: 0,
-    width: 1,
-    height: 1,
-    base: 1,
-    version: 0,
-    compression: 0,
-    rows: ROWS as u64,
-};
+const READ: ReadAnswer = ReadAnswer::accepted([1, 1, 1, 0, 0], ROWS);
 
 pub struct Full<'a> {
     names: [&'a [u8]; ROWS],

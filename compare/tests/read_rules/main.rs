@@ -25,17 +25,7 @@ fn assert_refused(file: &[u8], number: u64, place: usize) {
 /// Asserts, with all, that a file is accepted with the image's five numbers
 /// (sides, base, version, compression) and the rows, and no others.
 fn assert_accepted(file: &[u8], image: [u64; 5], rows: &[Row]) {
-    let [width, height, base, version, compression] = image;
-    let expected = ReadAnswer {
-        number: 0,
-        place: 0,
-        width,
-        height,
-        base,
-        version,
-        compression,
-        rows: rows.len() as u64,
-    };
+    let expected = ReadAnswer::accepted(image, rows.len());
     for by in ALL {
         let mut table = vec![FILLING; TABLE_LENGTH];
         let answer = (by.read)(file, &mut table);
