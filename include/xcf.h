@@ -164,6 +164,9 @@ typedef struct {
  *           column and line what is left, and are numbered line by line from the top, in each from the left
  *
  * Every byte of both is set, whatever it held; where a tile is marked, its pixels are set to zero.
+ * Where xcf_read gave table and compression for the file, a good tile depends only on the file's length, on the bytes that
+ * xcf_read passes over and on those that the tile consumed: another file of that length that has these is read the same and
+ * shows the same tile, whatever its other bytes are.
  * Refused: 11 table; 15; 14 unless
  *   - row is below 128 and its kind is 1 to 3,
  *   - its sides are 1 to 16,384 and its depth is 1 to 4,

@@ -5,6 +5,7 @@
 
 use std::ops::Range;
 
+use xcf_compare::answer::WINDOW_LIMIT;
 use xcf_compare::implementation::{Implementation, LIBRARY, PLAIN, REFERENCE};
 use xcf_compare::random::Random;
 use xcf_compare::report;
@@ -150,6 +151,7 @@ impl Pair {
     /// Asserts that the second file is read the same and keeps the chosen tiles.
     fn assert_kept(&self, random: &mut Random) {
         let Pair { first, second, .. } = self;
+        first.assert_agreed(random);
         second.assert_agreed(random);
         first.reading.assert_same(&second.reading);
         for chosen in &self.chosen {
@@ -167,8 +169,12 @@ struct Seen {
     /// Chosen tiles with another byte in their window, behind what they
     /// consumed.
     changed_behind: usize,
-    /// Chosen tiles with a structure byte in their window.
+    /// Of these, the ones with a structure byte there, too.
     over_structures: usize,
+    /// And the ones whose window was cut.
+    cut: usize,
+    /// Chosen tiles of masks.
+    masks: usize,
     /// How the tiles changed that were not chosen.
     changes: Changes,
     /// Pairs in which all good tiles were chosen.
@@ -187,12 +193,15 @@ impl Seen {
         self.compressions[first.reading.compression() as usize] += 1;
         let is_structure = structures(&first.file);
         for chosen in &pair.chosen {
-            let window = first.tiles[chosen.index].window.clone();
+            let Tile { row, window, .. } = &first.tiles[chosen.index];
             let behind = chosen.consumed.end..window.end;
-            let is_changed = first.file[behind.clone()] != second.file[behind];
+            let is_changed = first.file[behind.clone()] != second.file[behind.clone()];
+            let is_over = is_changed && is_structure[behind].contains(&true);
             self.chosen += 1;
             self.changed_behind += usize::from(is_changed);
-            self.over_structures += usize::from(is_structure[window].contains(&true));
+            self.over_structures += usize::from(is_over);
+            self.cut += usize::from(is_changed && window.len() == WINDOW_LIMIT);
+            self.masks += usize::from(first.reading.is_mask(*row));
         }
         let mut is_all = true;
         for tile in first.tiles.iter().filter(|tile| !tile.is_chosen) {
@@ -217,13 +226,16 @@ impl Seen {
     fn report(&self) {
         report(&format!(
             "consumed: {PAIRS} pairs of files, compressions {:?}, {} with all good tiles chosen; \
-             {} chosen tiles, {} with changes in their window behind what they consumed, {} with \
-             structures in it; of the others {}; {} rows with a chosen tile share their pointers",
+             {} chosen tiles, {} of masks, {} with changes in their window behind what they \
+             consumed, of these {} with structures there and {} with a window that was cut; of the \
+             others {}; {} rows with a chosen tile share their pointers",
             self.compressions,
             self.all_chosen,
             self.chosen,
+            self.masks,
             self.changed_behind,
             self.over_structures,
+            self.cut,
             self.changes,
             self.shared
         ));
@@ -233,8 +245,9 @@ impl Seen {
     fn assert_varied(&self) {
         assert!(self.compressions.iter().all(|&count| count >= 1_000));
         assert!(self.all_chosen >= 1_000 && self.chosen >= 30_000);
-        assert!(self.changed_behind >= 10_000 && self.over_structures >= 8_000);
-        assert!(self.changes.good_to_marked >= 3_000 && self.changes.marked_to_good >= 50);
+        assert!(self.changed_behind >= 10_000 && self.over_structures >= 5_000);
+        assert!(self.cut >= 500 && self.masks >= 5_000);
+        assert!(self.changes.good_to_marked >= 3_000 && self.changes.marked_to_good >= 20);
         assert!(self.changes.other_pixels >= 3_000 && self.shared >= 8_000);
     }
 }

@@ -1,5 +1,5 @@
 //! What a good tile is held to depend on is needed: it shows if the last byte that
-//! the tile consumed, or a byte of a structure, is another one.
+//! the tile consumed is another one, and often if a byte of a structure is.
 
 use xcf_compare::files::laid::with_byte;
 use xcf_compare::random::Random;

@@ -12,6 +12,9 @@ use xcf_compare::files::{decodable_file, random_table};
 use xcf_compare::library;
 use xcf_compare::random::Random;
 
+/// The kind of a row that is a mask.
+const MASK: u32 = 2;
+
 /// A tile of a row, and its window.
 #[derive(Clone)]
 pub struct Tile {
@@ -73,6 +76,10 @@ impl Reading {
     /// The place of a row's first tile pointer.
     pub fn pointers(&self, row: u32) -> u32 {
         self.table[ROW_LENGTH * row as usize + 8]
+    }
+
+    pub fn is_mask(&self, row: u32) -> bool {
+        self.table[ROW_LENGTH * row as usize] == MASK
     }
 }
 

@@ -13,8 +13,9 @@ use Rattle.xcf_range.proofs.Bounds.{bounds-within}
 use Rattle.xcf_store.specs.Pointer.{pointerSize, PointerSize}
 use Rattle.xcf_read.specs.Answer.{reading, rowOf}
 use Rattle.xcf_read_laws.proofs.AcceptedRows.{RowRead}
-use Rattle.xcf_window.specs.Usable.{inRange, inFile, decodableRow, fits, rowRefusal}
+use Rattle.xcf_window.specs.Usable.{inRange, inFile, decodableRow, rowRefusal}
 use Rattle.xcf_decode.specs.Answer.{refusal, drawableRefusal, rowDecoding, decoding}
+use Rattle.xcf_decode_laws.specs.Given.{Fit, decodingGiven}
 use Rattle.xcf_window.proofs.TilePointers.{tiles-inside}
 use Rattle.xcf_read_laws.proofs.Accepts.{accepts}
 
@@ -43,9 +44,8 @@ module _ {size : ℕ} {f : List ℕ} {S : ℕ → Type 0} {r : Row} (sized : Poi
     decodable = rw (row-not-refused, ← row .tiles .pointers)
 
 pub row-decoded : (f lent : List ℕ) → reading f lent .answer .number ≡ 0 → (k : ℕ) → k < reading f lent .answer .rows → (pixels marks : List ℕ)
-    → fits (rowOf (reading f lent) k) (length pixels) (length marks) ≡ true
-    → decoding pointerSize f (reading f lent .table) k (reading f lent .answer .compression) pixels marks
-    ≡ rowDecoding pointerSize f (rowOf (reading f lent) k) (reading f lent .answer .compression)
+    → Fit (reading f lent) k pixels marks
+    → decodingGiven pointerSize f (reading f lent) k pixels marks ≡ rowDecoding pointerSize f (rowOf (reading f lent) k) (reading f lent .answer .compression)
 unfolding decoding
 row-decoded f lent accepted k below pixels marks fit =
     let a = accepts f lent accepted in

@@ -1,1 +1,1 @@
-// What the decoder shows of accepted rows and of tiles, and the numbers of its refusals: proofs only.
+// What the decoder shows of accepted rows and of tiles, and the numbers of its refusals: statements and proofs only.

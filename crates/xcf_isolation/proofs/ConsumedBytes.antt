@@ -11,6 +11,7 @@ use lib.Seq.{take-take}
 use Rattle.xcf_walk_laws.proofs.Depends.{part-same}
 use Rattle.xcf_table.specs.declared.Row.{Row}
 use Rattle.xcf_tile_laws.proofs.Consumed.{consumed-inside, consumed-decides}
+use Rattle.xcf_read.specs.Answer.{Reading, rowOf}
 use Rattle.xcf_window.specs.Window.{pointerAt, windowLength, window, InWindow, tile}
 use Rattle.xcf_isolation.specs.Kept.{Consumed}
 use Rattle.xcf_isolation.proofs.SameWindows.{pointer-same, length-same}
@@ -20,13 +21,13 @@ module _ (size : ℕ) (f : List ℕ) (r : Row) (compression t : ℕ) where
   unfolding tile
   consumed-long = consumed-inside (window size f r t) _ _ _ compression
 
-  window-short : length (window size f r t) ≤ windowLength size f r t
+  consumed-short : tile size f r compression t .consumed ≤ windowLength size f r t
   unfolding window
-  window-short = omega (arith, length-take (windowLength size f r t) (drop (pointerAt size f r t) f))
+  consumed-short = omega (arith, consumed-long, length-take (windowLength size f r t) (drop (pointerAt size f r t) f))
 
-  pub consumed-in-window : (i : ℕ) → Consumed size f r compression t i → InWindow size f r t i
-  unfolding Consumed InWindow
-  consumed-in-window i c = (c .0, omega (arith, c .1, consumed-long, window-short))
+pub consumed-in-window : (size : ℕ) (f : List ℕ) (x : Reading) (k t i : ℕ) → Consumed size f x k t i → InWindow size f (rowOf x k) t i
+unfolding Consumed InWindow
+consumed-in-window size f x k t i c = (c .0, omega (arith, c .1, consumed-short size f (rowOf x k) (x .answer .compression) t))
 
 -- two files of one length with the same tile pointers of a row
 module _ (size : ℕ) (f g : List ℕ) (r : Row) (long : length f ≡ length g)
@@ -45,11 +46,10 @@ module _ (size : ℕ) (f g : List ℕ) (r : Row) (long : length f ≡ length g)
       rw (pointer-same size f g r long pointers t below, length-same size f g r long pointers t below)
       (take-take n _ _ inside ∙ part-same f g _ n long agree ∙ sym (take-take n _ _ inside))
 
-  pub tile-kept : tile size f r compression t .mark ≡ 0 → ((i : ℕ) → Consumed size f r compression t i → getD f i 0 ≡ getD g i 0)
+  pub tile-kept : tile size f r compression t .mark ≡ 0
+      → ((i : ℕ) → pointerAt size f r t ≤ i → i < pointerAt size f r t + tile size f r compression t .consumed → getD f i 0 ≡ getD g i 0)
       → tile size g r compression t ≡ tile size f r compression t
-  unfolding tile Consumed
+  unfolding tile
   tile-kept good agree =
-      let most = consumed-long size f r compression t in
-      consumed-decides (window size f r t) (window size g r t) _ _ _ compression good
-      (rw window-long most)
-      (first-same _ (omega (arith, most, window-short size f r compression t)) (λ i lo hi. agree i (lo, hi)))
+      consumed-decides (window size f r t) (window size g r t) _ _ _ compression good (rw window-long (consumed-long size f r compression t))
+      (first-same _ (consumed-short size f r compression t) agree)

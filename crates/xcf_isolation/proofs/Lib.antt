@@ -1,6 +1,6 @@
 pub mod SameBytes
 pub mod SameWindows
-pub mod SameRows
 pub mod ConsumedBytes
+pub mod Given
 pub mod Kept
 pub mod Isolated

@@ -2,26 +2,17 @@
 -- since two bytes are equal or not. So the damaged file is read as the file was (`read-same`).
 -- Assumes nothing.
 use Prim.Native.Nat.{ℕ}
-use mathlib.Core.Path.{_≡_, refl, sym}
+use mathlib.Core.Path.{_≡_, sym}
 use mathlib.Core.List.{List}
-use mathlib.Core.Bool.{Bool, true, false}
-use borrow.Author.Tests.{eqb-true, eqb-false}
-use lib.Dec.{eqb}
 use lib.ListN.{getD}
+use Rattle.xcf_laws.proofs.Cases.{equal-unless}
 use Rattle.xcf_store.specs.Pointer.{pointerSize}
 use Rattle.xcf_read.specs.Image.{structureByte}
 use Rattle.xcf_read.specs.Answer.{Reading, reading, rowOf}
 use Rattle.xcf_read_laws.proofs.ReadDepends.{read-depends}
 use Rattle.xcf_window.specs.Window.{InWindow}
-use Rattle.xcf_isolation.specs.Tiles.{IsTile}
+use Rattle.xcf_decode_laws.specs.Given.{IsTile}
 use Rattle.xcf_isolation.specs.Isolation.{Damaged}
-
-equal-unless : (a b : ℕ) → ((a ≡ b → ⊥) → ⊥) → a ≡ b
-equal-unless a b h = go (eqb a b) refl
-  where
-    go : (t : Bool) → eqb a b ≡ t → a ≡ b
-    go true e = eqb-true a b e
-    go false e = absurd (h (eqb-false a b e))
 
 module _ {size : ℕ} {f g : List ℕ} {x : Reading} {Chosen : ℕ → ℕ → Type 0} (damage : Damaged size f g x Chosen) where
   pub structure-same : (i : ℕ) → structureByte size f i → getD f i 0 ≡ getD g i 0

@@ -11,7 +11,7 @@ use Rattle.xcf_read.specs.Answer.{Reading, reading, rowOf}
 use Rattle.xcf_window.specs.Window.{window, InWindow, tile}
 use Rattle.xcf_grid.specs.Pixels.{shown}
 use Rattle.xcf_decode.specs.Answer.{Decoding}
-use Rattle.xcf_isolation.specs.Tiles.{pointerSizeOf, IsTile, decodingGiven, Fit}
+use Rattle.xcf_decode_laws.specs.Given.{pointerSizeOf, IsTile, decodingGiven, Fit}
 
 -- byte i lies in the window of a chosen tile
 pub record InChosen (size : ℕ) (f : List ℕ) (x : Reading) (Chosen : ℕ → ℕ → Type 0) (i : ℕ) : Type 0 where

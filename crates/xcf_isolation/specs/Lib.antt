@@ -1,3 +1,2 @@
-pub mod Tiles
 pub mod Kept
 pub mod Isolation

@@ -22,7 +22,7 @@ use Rattle.xcf_window.specs.Window.{pointerAt, windowEnd, windowLength, window,
 use Rattle.xcf_grid.specs.Pixels.{tabulate, pixelsOf}
 use Rattle.xcf_window.specs.Usable.{fits}
 use Rattle.xcf_decode.specs.Answer.{marksOf, nonzero, rowDecoding}
-use Rattle.xcf_isolation.specs.Tiles.{IsTile, Fit}
+use Rattle.xcf_decode_laws.specs.Given.{IsTile, Fit}
 use Rattle.xcf_isolation.specs.Isolation.{InChosen, Damaged}
 use Rattle.xcf_decode_laws.proofs.RowDecoded.{row-decoded}
 use Rattle.xcf_isolation.proofs.SameBytes.{read-same}

@@ -23,12 +23,13 @@ use Rattle.xcf_read.specs.Answer.{Reading, readingOf, reading, rowOf}
 use Rattle.xcf_window.specs.Window.{pointerAt, windowEnd, windowLength, window, InWindow, tile}
 use Rattle.xcf_grid.specs.Pixels.{tabulate, pixelsOf}
 use Rattle.xcf_window.specs.Usable.{fits}
-use Rattle.xcf_decode.specs.Answer.{marksOf, nonzero, rowDecoding}
-use Rattle.xcf_isolation.specs.Tiles.{IsTile, tileGiven, decodingGiven, Fit}
+use Rattle.xcf_decode.specs.Answer.{Decoding, marksOf, nonzero, rowDecoding}
+use Rattle.xcf_decode_laws.specs.Given.{IsTile, tileGiven, Fit, decodingGiven}
 use Rattle.xcf_isolation.specs.Kept.{Consumed, GoodTile, TileByte, ConsumedByGood, GoodByte}
 use Rattle.xcf_decode_laws.proofs.RowDecoded.{row-decoded}
 use Rattle.xcf_read_laws.proofs.Accepted.{read-walked}
-use Rattle.xcf_theorems.specs.KeptExample.{pairFile, onePixel, KeptExample}
+use Rattle.xcf_isolation.proofs.Given.{pointers-passed}
+use Rattle.xcf_theorems.specs.KeptExample.{pairFile, oneCopy, KeptExample}
 use Rattle.xcf_theorems.proofs.ExampleWalks.{grey, pairRows, walks}
 use Rattle.xcf_theorems.proofs.OneByte.{agree-without}
 
@@ -36,16 +37,13 @@ use Rattle.xcf_theorems.proofs.OneByte.{agree-without}
 abbrev given : Reading
 given = readingOf (grey 1 2 pairRows 233)
 
-pair-read : (opcode : ℕ) (lent : List ℕ) → length lent ≡ tableSize → reading (pairFile opcode) lent ≡ given
-pair-read opcode lent size = read-walked (pairFile opcode) lent size (omega arith) (walks .pair opcode)
-
--- one pixel of 255, in a copy of one byte
-abbrev copied : Tile
-copied = record { mark = 0; consumed = 2; operations = 1; pixels = 255 ∷ [] }
+-- what the decoder leaves of a tile of one pixel, where so many are marked
+abbrev onePixel : ℕ → ℕ → ℕ → Decoding
+onePixel marked mark pixel = record { answer = record { number = 0; place = 0; marked = marked }; pixels = pixel ∷ []; marks = mark ∷ [] }
 
 record Tiles : Type 0 where
   place : (opcode : ℕ) → pointerAt pointerSize (pairFile opcode) (rowOf given 0) 0 ≡ 145
-  first : (opcode : ℕ) → tileGiven pointerSize (pairFile opcode) given 0 0 ≡ copied
+  first : (opcode : ℕ) → tileGiven pointerSize (pairFile opcode) given 0 0 ≡ oneCopy
   marked : tileGiven pointerSize (pairFile 128) given 1 0 .mark ≡ Mark.short
   firstShown : (opcode : ℕ) → rowDecoding pointerSize (pairFile opcode) (rowOf given 0) 1 ≡ onePixel 0 0 255
   secondShown : rowDecoding pointerSize (pairFile 255) (rowOf given 1) 1 ≡ onePixel 0 0 255
@@ -59,7 +57,7 @@ no-structure : (opcode : ℕ) → structureByte pointerSize (pairFile opcode) 23
 unfolding structureByte
 no-structure opcode = not-passed (image pointerSize) (pairFile opcode) 0 233 (walks .pairFree opcode)
 
-not-consumed : (opcode : ℕ) → Consumed pointerSize (pairFile opcode) (rowOf given 0) 1 0 233 → ⊥
+not-consumed : (opcode : ℕ) → Consumed pointerSize (pairFile opcode) given 0 0 233 → ⊥
 unfolding Consumed
 not-consumed opcode c = omega (arith, rw (tiles .place opcode, tiles .first opcode) at (c .1))
 
@@ -80,7 +78,7 @@ only-tile t k is = by-row (λ k. t < rowOf given k .count → t ≡ 0) only only
 none-consumed : ConsumedByGood pointerSize (pairFile 128) given 233 → ⊥
 none-consumed c =
     let tile = only-tile (c .t) (c .k) (c .good .is) in
-    by-row (λ k. tileGiven pointerSize (pairFile 128) given k 0 .mark ≡ 0 → Consumed pointerSize (pairFile 128) (rowOf given k) 1 0 233 → ⊥)
+    by-row (λ k. tileGiven pointerSize (pairFile 128) given k 0 .mark ≡ 0 → Consumed pointerSize (pairFile 128) given k 0 233 → ⊥)
     (λ _. not-consumed 128) (λ good _. let short : Mark.short ≡ 0 = sym (tiles .marked) ∙ good in omega (arith, short))
     (c .k) (c .good .is .row) (rw tile at (c .good .good)) (rw tile at (c .consumed))
 
@@ -96,24 +94,36 @@ fitting : (pixels marks : List ℕ) → length pixels ≡ 1 → length marks ≡
 unfolding tableOf fits rowAt
 fitting pixels marks p m = by-row (λ k. Fit given k pixels marks) (rw (p, m)) (rw (p, m))
 
-pub example-kept : (lent pixels marks : List ℕ) → length lent ≡ tableSize → length pixels ≡ 1 → length marks ≡ 1 → KeptExample lent pixels marks
-example-kept lent pixels marks size p m =
-    let read : (opcode : ℕ) → reading (pairFile opcode) lent ≡ given = λ opcode. pair-read opcode lent size in
-    let accepted : (opcode : ℕ) → reading (pairFile opcode) lent .answer .number ≡ 0 = λ opcode. rw (read opcode) in
-    let decoded : (opcode k : ℕ) → k < 2 → decodingGiven pointerSize (pairFile opcode) (reading (pairFile opcode) lent) k pixels marks
-    ≡ rowDecoding pointerSize (pairFile opcode) (rowOf given k) 1 =
-    λ opcode k below.
-    row-decoded (pairFile opcode) lent (accepted opcode) k (rw (read opcode) below) pixels marks (rw (read opcode) (fitting pixels marks p m k below))
-    ∙ rw (read opcode) in
-    record {
-      accepted = accepted;
-      good = rw (read 255) first-good;
-      agree = rw (read 255) (agree-without (pairFile 0) 233 255 128 (TileByte pointerSize (pairFile 255) given 0 0) (⊎-elim (no-structure 255) (not-consumed 255)));
-      covers = rw (read 255) covers;
-      silent = λ Chosen damage free. damage .others 233 (λ e. omega (arith, e)) 0 0 (rw (read 255) (first-good .is)) free (rw (read 255) (covers 233 (omega arith) (omega arith)));
-      back = rw (read 128) (agree-without (pairFile 0) 233 128 255 (GoodByte pointerSize (pairFile 128) given) (⊎-elim (no-structure 128) none-consumed));
-      given = λ opcode. rw (read opcode) (tiles .first opcode);
-      first = λ opcode. decoded opcode 0 (omega arith) ∙ tiles .firstShown opcode;
-      second = decoded 255 1 (omega arith) ∙ tiles .secondShown;
-      marked = decoded 128 1 (omega arith) ∙ tiles .markedShown;
-    }
+module _ (lent pixels marks : List ℕ) (size : length lent ≡ tableSize) (p : length pixels ≡ 1) (m : length marks ≡ 1) where
+  read : (opcode : ℕ) → reading (pairFile opcode) lent ≡ given
+  read opcode = read-walked (pairFile opcode) lent size (omega arith) (walks .pair opcode)
+
+  accepted : (opcode : ℕ) → reading (pairFile opcode) lent .answer .number ≡ 0
+  accepted opcode = rw (read opcode)
+
+  second-pointer : structureByte pointerSize (pairFile 255) 225
+  unfolding tableOf rowAt
+  second-pointer = pointers-passed (pairFile 255) lent (accepted 255) 1 (rw (read 255) (omega arith)) 225 (rw (read 255) (omega arith)) (rw (read 255) (omega arith))
+
+  decoded : (opcode k : ℕ) → k < 2
+      → decodingGiven pointerSize (pairFile opcode) (reading (pairFile opcode) lent) k pixels marks ≡ rowDecoding pointerSize (pairFile opcode) (rowOf given k) 1
+  decoded opcode k below =
+      let fit = fitting pixels marks p m k below in
+      row-decoded (pairFile opcode) lent (accepted opcode) k (rw (read opcode) below) pixels marks (rw (read opcode) fit) ∙ rw (read opcode)
+
+  pub example-kept : KeptExample lent pixels marks
+  example-kept = record {
+    accepted = accepted;
+    good = rw (read 255) first-good;
+    agree = rw (read 255) (agree-without (pairFile 0) 233 255 128 (TileByte pointerSize (pairFile 255) given 0 0) (⊎-elim (no-structure 255) (not-consumed 255)));
+    covers = rw (read 255) covers;
+    structure = second-pointer;
+    chosen = λ Chosen damage free.
+        let inside : InWindow pointerSize (pairFile 255) (rowOf given 0) 0 233 = covers 233 (omega arith) (omega arith) in
+        damage .others 233 (λ e. omega (arith, e)) 0 0 (rw (read 255) (first-good .is)) free (rw (read 255) inside);
+    back = rw (read 128) (agree-without (pairFile 0) 233 128 255 (GoodByte pointerSize (pairFile 128) given) (⊎-elim (no-structure 128) none-consumed));
+    given = λ opcode. rw (read opcode) (tiles .first opcode);
+    first = λ opcode. decoded opcode 0 (omega arith) ∙ tiles .firstShown opcode;
+    second = decoded 255 1 (omega arith) ∙ tiles .secondShown;
+    marked = decoded 128 1 (omega arith) ∙ tiles .markedShown;
+  }

@@ -7,7 +7,7 @@ use lib.ListN.{take, set, replicate}
 use Rattle.xcf_numbers.specs.Mark
 use Rattle.xcf_store.specs.Pointer.{pointerSize}
 use Rattle.xcf_read.specs.Answer.{reading}
-use Rattle.xcf_isolation.specs.Tiles.{decodingGiven}
+use Rattle.xcf_decode_laws.specs.Given.{decodingGiven}
 use Rattle.xcf_isolation.specs.Isolation.{Damaged}
 use Rattle.xcf_theorems.specs.ExampleFile.{exampleFile}
 

@@ -7,10 +7,11 @@ use mathlib.Core.List.{List, [], _∷_, _++_}
 use lib.ListN.{take, drop, set}
 use Rattle.xcf_numbers.specs.Mark
 use Rattle.xcf_store.specs.Pointer.{pointerSize}
+use Rattle.xcf_tile.specs.Tile.{Tile}
+use Rattle.xcf_read.specs.Image.{structureByte}
 use Rattle.xcf_read.specs.Answer.{reading, rowOf}
 use Rattle.xcf_window.specs.Window.{InWindow}
-use Rattle.xcf_decode.specs.Answer.{Decoding}
-use Rattle.xcf_isolation.specs.Tiles.{tileGiven, decodingGiven}
+use Rattle.xcf_decode_laws.specs.Given.{tileGiven, decodingGiven}
 use Rattle.xcf_isolation.specs.Kept.{GoodTile, TileByte, GoodByte, Agree}
 use Rattle.xcf_isolation.specs.Isolation.{Damaged}
 use Rattle.xcf_theorems.specs.ExampleFile.{exampleFile}
@@ -24,27 +25,29 @@ abbrev pub pairFile : ℕ → List ℕ
 pairFile opcode =
     set (take 47 exampleFile ++ (0 ∷ 0 ∷ 0 ∷ 59 ∷ 0 ∷ 0 ∷ 0 ∷ 147 ∷ 0 ∷ 0 ∷ 0 ∷ 0 ∷ []) ++ channelAt 59 ++ channelAt 147) 233 opcode
 
--- what the decoder leaves of one tile of one pixel, and how many it says are marked
-abbrev pub onePixel : ℕ → ℕ → ℕ → Decoding
-onePixel marked mark pixel = record { answer = record { number = 0; place = 0; marked = marked }; pixels = pixel ∷ []; marks = mark ∷ [] }
+-- one pixel of 255, as a copy of one byte
+abbrev pub oneCopy : Tile
+oneCopy = record { mark = 0; consumed = 2; operations = 1; pixels = 255 ∷ [] }
 
 -- Both files are accepted. The first tile of one is good, and the other agrees with it on the bytes that decide this tile, though not
--- on its window, which covers the second channel: isolation allows no choice of tiles without it. The other way round, from the file
--- with a marked tile to the one without, they agree on all that decides something good. Then what is given for the first tile, and what
--- is shown of both in buffers that fit, whatever these held.
+-- on its window. That window covers the second channel, from 147 on: structures, such as the tile pointer at 225, and the tile. So each
+-- choice of tiles for which isolation speaks of the two files has the first tile, and isolation does not say that it is the same. The
+-- other way round, from the file with a marked tile to the one without, the two agree on all that decides a good tile. Then what is
+-- given for the first tile, and what is shown of both in buffers that fit, whatever these held.
 pub record KeptExample (lent pixels marks : List ℕ) : Type 1 where
   pub accepted : (opcode : ℕ) → reading (pairFile opcode) lent .answer .number ≡ 0
   pub good : GoodTile pointerSize (pairFile 255) (reading (pairFile 255) lent) 0 0
   pub agree : Agree (pairFile 255) (pairFile 128) (TileByte pointerSize (pairFile 255) (reading (pairFile 255) lent) 0 0)
   pub covers : (i : ℕ) → 145 ≤ i → i < 235 → InWindow pointerSize (pairFile 255) (rowOf (reading (pairFile 255) lent) 0) 0 i
-  pub silent : (Chosen : ℕ → ℕ → Type 0) → Damaged pointerSize (pairFile 255) (pairFile 128) (reading (pairFile 255) lent) Chosen
+  pub structure : structureByte pointerSize (pairFile 255) 225
+  pub chosen : (Chosen : ℕ → ℕ → Type 0) → Damaged pointerSize (pairFile 255) (pairFile 128) (reading (pairFile 255) lent) Chosen
       → (Chosen 0 0 → ⊥) → ⊥
   pub back : Agree (pairFile 128) (pairFile 255) (GoodByte pointerSize (pairFile 128) (reading (pairFile 128) lent))
   pub given : (opcode : ℕ) → tileGiven pointerSize (pairFile opcode) (reading (pairFile opcode) lent) 0 0
-      ≡ record { mark = 0; consumed = 2; operations = 1; pixels = 255 ∷ [] }
+      ≡ oneCopy
   pub first : (opcode : ℕ) → decodingGiven pointerSize (pairFile opcode) (reading (pairFile opcode) lent) 0 pixels marks
-      ≡ onePixel 0 0 255
+      ≡ record { answer = record { number = 0; place = 0; marked = 0 }; pixels = 255 ∷ []; marks = 0 ∷ [] }
   pub second : decodingGiven pointerSize (pairFile 255) (reading (pairFile 255) lent) 1 pixels marks
-      ≡ onePixel 0 0 255
+      ≡ record { answer = record { number = 0; place = 0; marked = 0 }; pixels = 255 ∷ []; marks = 0 ∷ [] }
   pub marked : decodingGiven pointerSize (pairFile 128) (reading (pairFile 128) lent) 1 pixels marks
-      ≡ onePixel 1 Mark.short 0
+      ≡ record { answer = record { number = 0; place = 0; marked = 1 }; pixels = 0 ∷ []; marks = Mark.short ∷ [] }

@@ -36,6 +36,7 @@ use Rattle.xcf_grid.specs.Pixels.{HasPixel, tileAt, byteOf, byteIn, pixelsOf, s
 use Rattle.xcf_window.specs.Window.{window}
 use Rattle.xcf_window.specs.Usable.{fits}
 use Rattle.xcf_decode.specs.Answer.{decoderNumbers, nonzero, rowDecoding, decoding, counting}
+use Rattle.xcf_decode_laws.specs.Given.{pointerSizeOf, Fit, decodingGiven}
 use Rattle.xcf_isolation.specs.Kept.{GoodTileKept, GoodTilesKept}
 use Rattle.xcf_isolation.specs.Isolation.{Isolation}
 use Rattle.xcf_table.specs.declared.canvas.Canvas.{Canvas}
@@ -167,8 +168,8 @@ abbrev pub AcceptedRowsDecode : Type 0
 AcceptedRowsDecode =
     (file lent : List ℕ) →
     let x = reading file lent in
-    x .answer .number ≡ 0 → (k : ℕ) → k < x .answer .rows → (pixels marks : List ℕ) → fits (rowOf x k) (length pixels) (length marks) ≡ true
-    → decoding pointerSize file (x .table) k (x .answer .compression) pixels marks ≡ rowDecoding pointerSize file (rowOf x k) (x .answer .compression)
+    x .answer .number ≡ 0 → (k : ℕ) → k < x .answer .rows → (pixels marks : List ℕ) → Fit x k pixels marks →
+    let size = pointerSizeOf x in decodingGiven size file x k pixels marks ≡ rowDecoding size file (rowOf x k) (x .answer .compression)
 
 -- A tile is good exactly when its window begins with a valid encoding, and then shows that encoding's pixels; otherwise it is marked
 -- and its pixels are zero (in full in `xcf_tile_laws/specs/Valid.antt`): for every window, sides, depth and compression …
@@ -297,18 +298,18 @@ abbrev pub ExampleIsDamaged : Type 0
 ExampleIsDamaged =
     (lent pixels marks : List ℕ) → length lent ≡ tableSize → length pixels ≡ 65 → length marks ≡ 2 → DamagedExample lent pixels marks
 
--- Only the bytes that count: for one length of the file, a good tile depends on the structure bytes and on the bytes that it consumed.
--- Where a second file agrees with an accepted one on these, it is read the same, and the tile is good in it, with the same pixels, bytes
--- consumed and operations, whatever else differs; in full in `xcf_isolation/specs/Kept.antt`.
+-- For one length of the file, a good tile depends only on the structure bytes and on the bytes that it consumed. Where a second file
+-- agrees with an accepted one on these, it is read the same, and the tile is good in it, with the same pixels, bytes consumed and
+-- operations, whatever else differs; in full in `xcf_isolation/specs/Kept.antt`.
 abbrev pub GoodTileIsKept : Type 0
 GoodTileIsKept = GoodTileKept
 
--- So the structure bytes and what the good tiles consumed decide all that is read and all that is shown of the good tiles.
+-- So for one length, the structure bytes and what the good tiles consumed decide all that is read and all that is shown of the good tiles.
 abbrev pub GoodTilesAreKept : Type 0
 GoodTilesAreKept = GoodTilesKept
 
--- Such are two files that differ in one byte of the window of the first tile, behind what it consumed. Isolation says nothing of that
--- tile; it is kept, and the second tile, which has that byte, is good in one file and marked in the other.
+-- Such are two files that differ in one byte of the window of the first tile, behind what it consumed, so that isolation does not say
+-- that this tile is the same; and the second tile, which has that byte, is good in one file and marked in the other.
 abbrev pub ExampleTileIsKept : Type 1
 ExampleTileIsKept =
     (lent pixels marks : List ℕ) → length lent ≡ tableSize → length pixels ≡ 1 → length marks ≡ 1 → KeptExample lent pixels marks

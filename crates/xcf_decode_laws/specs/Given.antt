@@ -1,12 +1,11 @@
--- The tiles of a file f that was read, and what the library gives for them; x is what the reader gave for f. A pointer has `size`
--- bytes.
+-- What the library gives for a file f that was read: x is what the reader gave for it. A pointer has `size` bytes.
 use Prim.Native.Nat.{ℕ, _<_}
 use mathlib.Core.Path.{_≡_}
 use mathlib.Core.List.{List}
 use mathlib.Core.Bool.{true}
 use lib.ListN.{length}
-use Rattle.xcf_tile.specs.Tile.{Tile}
 use Rattle.xcf_store.specs.Pointer.{pointerSize}
+use Rattle.xcf_tile.specs.Tile.{Tile}
 use Rattle.xcf_read.specs.Answer.{Reading, rowOf}
 use Rattle.xcf_window.specs.Window.{tile}
 use Rattle.xcf_window.specs.Usable.{fits}
@@ -25,10 +24,10 @@ pub record IsTile (x : Reading) (k t : ℕ) : Type 0 where
 abbrev pub tileGiven : ℕ → List ℕ → Reading → ℕ → ℕ → Tile
 tileGiven size f x k t = tile size f (rowOf x k) (x .answer .compression) t
 
--- what the decoder, lent the file and what the reader gave for it, leaves of row k in lent buffers
-abbrev pub decodingGiven : ℕ → List ℕ → Reading → ℕ → List ℕ → List ℕ → Decoding
-decodingGiven size f x k pixels marks = decoding size f (x .table) k (x .answer .compression) pixels marks
-
 -- the lent buffers have the right lengths for row k
 abbrev pub Fit : Reading → ℕ → List ℕ → List ℕ → Type 0
 Fit x k pixels marks = fits (rowOf x k) (length pixels) (length marks) ≡ true
+
+-- what the decoder, lent the file and what the reader gave for it, leaves of row k in lent buffers
+abbrev pub decodingGiven : ℕ → List ℕ → Reading → ℕ → List ℕ → List ℕ → Decoding
+decodingGiven size f x k pixels marks = decoding size f (x .table) k (x .answer .compression) pixels marks
