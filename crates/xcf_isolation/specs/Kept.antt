@@ -20,12 +20,12 @@ pub record GoodTile (size : ℕ) (f : List ℕ) (x : Reading) (k t : ℕ) : Type
   pub is : IsTile x k t
   pub good : tileGiven size f x k t .mark ≡ 0
 
--- it consumed byte i
+-- tile t of row k consumed byte i
 unfoldable pub Consumed : ℕ → List ℕ → Reading → ℕ → ℕ → ℕ → Type 0
 Consumed size f x k t i =
     let start = pointerAt size f (rowOf x k) t in (start ≤ i) × (i < start + tileGiven size f x k t .consumed)
 
--- byte i decides that tile where it is good: it is a structure's, or the tile consumed it
+-- byte i decides that tile, if it is good: the byte is a structure's, or the tile consumed it
 abbrev pub TileByte : ℕ → List ℕ → Reading → ℕ → ℕ → ℕ → Type 0
 TileByte size f x k t i = structureByte size f i ⊎ Consumed size f x k t i
 
@@ -36,7 +36,7 @@ pub record ConsumedByGood (size : ℕ) (f : List ℕ) (x : Reading) (i : ℕ) : 
   pub good : GoodTile size f x k t
   pub consumed : Consumed size f x k t i
 
--- byte i decides what is read, or a good tile
+-- byte i decides what is read, or a good tile: it is a structure's, or a good tile consumed it
 abbrev pub GoodByte : ℕ → List ℕ → Reading → ℕ → Type 0
 GoodByte size f x i = structureByte size f i ⊎ ConsumedByGood size f x i
 
