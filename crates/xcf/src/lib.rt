@@ -3,7 +3,6 @@ ghost use mathlib.Core.Path.{_≡_};
 ghost use Rattle.xcf_numbers.specs.Limit.{fileLimit};
 ghost use Rattle.xcf_tile.specs.Answer.{Decoded};
 ghost use Rattle.xcf_encode.specs.Answer.{TileEncoded};
-ghost use Rattle.xcf_store.specs.Pointer.{pointerSize};
 ghost use Rattle.xcf_read.specs.Answer.{Read};
 ghost use Rattle.xcf_decode.specs.Answer.{counting, DrawableDecoded};
 ghost use Rattle.xcf_write.specs.Answer.{Written};
@@ -13,7 +12,6 @@ use xcf_encode::EncodeAnswer;
 use xcf_listing::ListAnswer;
 use xcf_numbers::limit::FILE_LIMIT;
 use xcf_read::ReadAnswer;
-use xcf_store::pointer::POINTER_SIZE;
 use xcf_table::canvas::Canvas;
 use xcf_tile::TileAnswer;
 use xcf_write::WriteAnswer;
@@ -26,19 +24,21 @@ pub extern "C" fn xcf_read(file: &[u8], table: &mut [u32]) -> ReadAnswer
     xcf_read::read(file, table)
 }
 
-// The pixels of the table's row `row`, and a mark for each of its tiles; tiles are plain for compression 0, encoded for 1.
+// The pixels of the table's row `row`, and a mark for each of its tiles; tiles are plain for compression 0, encoded for 1, and a
+// pointer has `size` bytes, 4 or 8.
 #[no_mangle]
 pub extern "C" fn xcf_decode(
     file: &[u8],
     table: &[u32],
     row: u32,
     compression: u32,
+    size: u32,
     pixels: &mut [u8],
     marks: &mut [u8],
 ) -> DecodeAnswer
-    ensures { λ r. ⌜ DrawableDecoded pointerSize (now (file .entry)) (now (table .entry)) row compression (now (pixels .entry)) (now (marks .entry)) r (now (pixels .exit)) (now (marks .exit)) ⌝ }
+    ensures { λ r. ⌜ DrawableDecoded size (now (file .entry)) (now (table .entry)) row compression (now (pixels .entry)) (now (marks .entry)) r (now (pixels .exit)) (now (marks .exit)) ⌝ }
 {
-    xcf_decode::decode(file, table, row, compression, POINTER_SIZE, pixels, marks)
+    xcf_decode::decode(file, table, row, compression, size as usize, pixels, marks)
 }
 
 // How many tiles of the table's row `row` are marked: the decoder's count, with no buffers lent.
@@ -48,10 +48,11 @@ pub extern "C" fn xcf_count_marked(
     table: &[u32],
     row: u32,
     compression: u32,
+    size: u32,
 ) -> DecodeAnswer
-    ensures { λ r. ⌜ r ≡ counting pointerSize (now (file .entry)) (now (table .entry)) row compression ⌝ }
+    ensures { λ r. ⌜ r ≡ counting size (now (file .entry)) (now (table .entry)) row compression ⌝ }
 {
-    xcf_decode::count_marked(file, table, row, compression, POINTER_SIZE)
+    xcf_decode::count_marked(file, table, row, compression, size as usize)
 }
 
 // The tile of `width` by `height` pixels of `depth` bytes each in a window: plain for compression 0, encoded for 1.

@@ -20,7 +20,8 @@ use Rattle.xcf_grid.specs.Grid.{tileCount}
 use Rattle.xcf_range.specs.Range.{within}
 use Rattle.xcf_range.proofs.Bounds.{within-bounds}
 use Rattle.xcf_walk.specs.Pointers.{tiles}
-use Rattle.xcf_store.specs.Pointer.{pointerSize, pointerSizeOk, PointerSize}
+use Rattle.xcf_store.proofs.Sizes.{size-of}
+use Rattle.xcf_store.specs.Pointer.{pointerSizeOk, PointerSize}
 use Rattle.xcf_read.specs.Answer.{refusals}
 use Rattle.xcf_read_laws.proofs.Numbers.{numbered-tiles}
 use Rattle.xcf_window.specs.Usable.{inRange, inFile, decodableRow, fits, rowRefusal}
@@ -45,7 +46,7 @@ row-usable size fileLength n r compression e =
     let more = and-eq-true-iff (within 1 sideLimit (r .height)) _ .0 (sides .1) in
     let inside = and-eq-true-iff (inFile size fileLength r) _ .0 (row .1) in
     let count = and-eq-true-iff (eqb (r .count) (tileCount (r .width) (r .height))) _ .0 (inside .0) in (
-      eqb-true size pointerSize (usable .0),
+      size-of (usable .0),
       record {
         wide = within-bounds 1 sideLimit (r .width) (sides .0);
         high = within-bounds 1 sideLimit (r .height) (more .0);

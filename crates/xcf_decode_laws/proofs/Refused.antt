@@ -1,5 +1,6 @@
 -- The numbers of the decoder's refusals: a walk over tile pointers that lie in the file is refused with 13 (`pointers-13`), so that
--- the decoder answers 0, 11, 13, 14 or 15 (`decoder-listed`), and so does the count without buffers (`counter-listed`).
+-- the decoder answers 0, 11, 13, 14 or 15 (`decoder-listed`), and so does the count without buffers (`counter-listed`). A size of pointers
+-- that there is not is a 14 (`sizes-unusable`).
 -- Assumes nothing.
 use Prim.Native.Nat.{ℕ, zero, suc, _+_, _*_, _≤_}
 use mathlib.Core.Path.{_≡_, refl, sym, _∙_}
@@ -7,7 +8,7 @@ use mathlib.Core.List.{List}
 use mathlib.Core.Bool.{Bool, true, false, cond, and-eq-true-iff}
 use native.Mathlib.Nat.{mul-le-mul-left}
 use native.Mathlib.Omega.{arith}
-use borrow.Author.Tests.{le-leb, leb-true}
+use borrow.Author.Tests.{le-leb, leb-true, eq-eqb, ne-eqb}
 use lib.Dec.{leb, eqb}
 use lib.ListN.{length}
 use Rattle.xcf_numbers.specs.Limit.{fileLimit, tableSize}
@@ -22,7 +23,7 @@ use Rattle.xcf_table.specs.Table.{rowAt}
 use Rattle.xcf_grid.specs.Grid.{tileCount}
 use Rattle.xcf_laws.proofs.Cases.{by-cases}
 use Rattle.xcf_walk.specs.Pointers.{tiles}
-use Rattle.xcf_store.specs.Pointer.{pointerSizeOk}
+use Rattle.xcf_store.specs.Pointer.{narrow, wide, pointerSizeOk}
 use Rattle.xcf_decode.specs.declared.DecodeAnswer.{DecodeAnswer}
 use Rattle.xcf_window.specs.Usable.{inRange, inFile, decodableRow, fits, rowRefusal}
 use Rattle.xcf_decode.specs.Answer.{refusal, pointersRefusal, drawableRefusal, decoderNumbers, marksOf, counted, Decoding, rowDecoding, decoding, counting}
@@ -104,3 +105,14 @@ counter-listed size file table k compression =
     let answer = drawableRefusal size file (length table) r compression true in
     by-cases Listed (eqb (answer .number) 0) (counted (marksOf size file r compression)) answer (λ _. refl)
     (λ _. drawable-listed size file (length table) r compression true)
+
+-- a size of pointers that is neither 4 nor 8
+pub sizes-unusable : (size : ℕ) (file table : List ℕ) (k compression : ℕ) (pixels marks : List ℕ) → (size ≡ narrow → ⊥) → (size ≡ wide → ⊥)
+    → length table ≡ tableSize → length file ≤ fileLimit
+    → (decoding size file table k compression pixels marks ≡ record { answer = refusal Refusal.unusable 0; pixels = pixels; marks = marks })
+    × (counting size file table k compression ≡ refusal Refusal.unusable 0)
+unfolding decoding counting drawableRefusal rowRefusal decodableRow pointerSizeOk
+sizes-unusable size file table k compression pixels marks narrower wider fit short = (
+  rw (eq-eqb _ _ fit, le-leb _ _ short, ne-eqb size narrow narrower, ne-eqb size wide wider),
+  rw (eq-eqb _ _ fit, le-leb _ _ short, ne-eqb size narrow narrower, ne-eqb size wide wider),
+)

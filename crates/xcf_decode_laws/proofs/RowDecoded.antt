@@ -1,7 +1,7 @@
 -- A drawable of an accepted file is decoded and not refused, given buffers that fit: its row passes every test of the decoder.
 -- Assumes nothing.
 use Prim.Native.Nat.{ℕ, _≤_, _<_}
-use mathlib.Core.Path.{_≡_, refl}
+use mathlib.Core.Path.{_≡_}
 use mathlib.Core.List.{List}
 use mathlib.Core.Bool.{true}
 use borrow.Author.Tests.{le-leb, eq-eqb}
@@ -10,7 +10,8 @@ use Rattle.xcf_numbers.specs.Limit.{fileLimit, tableSize}
 use Rattle.xcf_numbers.specs.Refusal
 use Rattle.xcf_table.specs.declared.Row.{Row}
 use Rattle.xcf_range.proofs.Bounds.{bounds-within}
-use Rattle.xcf_store.specs.Pointer.{pointerSize, PointerSize}
+use Rattle.xcf_store.specs.Pointer.{PointerSize}
+use Rattle.xcf_store.proofs.Sizes.{size-ok}
 use Rattle.xcf_read.specs.Answer.{reading, rowOf}
 use Rattle.xcf_read_laws.proofs.AcceptedRows.{RowRead}
 use Rattle.xcf_window.specs.Usable.{inRange, inFile, decodableRow, rowRefusal}
@@ -31,7 +32,7 @@ module _ {size : ℕ} {f : List ℕ} {S : ℕ → Type 0} {r : Row} (sized : Poi
 
   usable : (compression : ℕ) → compression ≤ 1 → decodableRow size (length f) r compression ≡ true
   unfolding decodableRow
-  usable compression way = rw (eq-eqb _ _ sized, in-range, in-file, le-leb _ _ way)
+  usable compression way = rw (size-ok sized, in-range, in-file, le-leb _ _ way)
 
   -- and is not refused for its file, its table or its pointers
   module _ (table compression : ℕ) (small : length f ≤ fileLimit) (long : table ≡ tableSize) (way : compression ≤ 1) where
@@ -45,8 +46,8 @@ module _ {size : ℕ} {f : List ℕ} {S : ℕ → Type 0} {r : Row} (sized : Poi
 
 pub row-decoded : (f lent : List ℕ) → reading f lent .answer .number ≡ 0 → (k : ℕ) → k < reading f lent .answer .rows → (pixels marks : List ℕ)
     → Fit (reading f lent) k pixels marks
-    → decodingGiven pointerSize f (reading f lent) k pixels marks ≡ rowDecoding pointerSize f (rowOf (reading f lent) k) (reading f lent .answer .compression)
+    → decodingGiven f (reading f lent) k pixels marks ≡ rowDecoding (reading f lent .answer .size) f (rowOf (reading f lent) k) (reading f lent .answer .compression)
 unfolding decoding
 row-decoded f lent accepted k below pixels marks fit =
     let a = accepts f lent accepted in
-    rw (fit, decodable refl (a .row k below) _ _ (a .small) (a .long) (a .way))
+    rw (fit, decodable (a .sized) (a .row k below) _ _ (a .small) (a .long) (a .way))

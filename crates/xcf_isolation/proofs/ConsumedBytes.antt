@@ -25,9 +25,9 @@ module _ (size : ℕ) (f : List ℕ) (r : Row) (compression t : ℕ) where
   unfolding window
   consumed-short = omega (arith, consumed-long, length-take (windowLength size f r t) (drop (pointerAt size f r t) f))
 
-pub consumed-in-window : (size : ℕ) (f : List ℕ) (x : Reading) (k t i : ℕ) → Consumed size f x k t i → InWindow size f (rowOf x k) t i
+pub consumed-in-window : (f : List ℕ) (x : Reading) (k t i : ℕ) → Consumed f x k t i → InWindow (x .answer .size) f (rowOf x k) t i
 unfolding Consumed InWindow
-consumed-in-window size f x k t i c = (c .0, omega (arith, c .1, consumed-short size f (rowOf x k) (x .answer .compression) t))
+consumed-in-window f x k t i c = (c .0, omega (arith, c .1, consumed-short (x .answer .size) f (rowOf x k) (x .answer .compression) t))
 
 -- two files of one length with the same tile pointers of a row
 module _ (size : ℕ) (f g : List ℕ) (r : Row) (long : length f ≡ length g)

@@ -6,7 +6,6 @@ use mathlib.Core.Path.{_≡_, refl}
 use mathlib.Core.List.{List}
 use native.Mathlib.Omega.{arith}
 use Rattle.xcf_table.specs.declared.Row.{Row}
-use Rattle.xcf_store.specs.Pointer.{pointerSize}
 use Rattle.xcf_read.specs.Image.{structureByte}
 use Rattle.xcf_read.specs.Answer.{reading, rowOf}
 use Rattle.xcf_read_laws.proofs.AcceptedRows.{RowRead}
@@ -32,18 +31,18 @@ module _ (size : ℕ) {f : List ℕ} {S : ℕ → Type 0} {r : Row} (row : RowRe
 
 module _ (f lent : List ℕ) (accepted : reading f lent .answer .number ≡ 0) where
   pub pointers-passed : (k : ℕ) → k < reading f lent .answer .rows → (i : ℕ) → rowOf (reading f lent) k .pointers ≤ i
-      → i < rowOf (reading f lent) k .pointers + pointerSize * rowOf (reading f lent) k .count → structureByte pointerSize f i
-  pointers-passed k row = row-pointers-passed pointerSize (accepts f lent accepted .row k row)
+      → i < rowOf (reading f lent) k .pointers + reading f lent .answer .size * rowOf (reading f lent) k .count → structureByte f i
+  pointers-passed k row = row-pointers-passed _ (accepts f lent accepted .row k row)
 
   pub given-shown : (k t : ℕ) → IsTile (reading f lent) k t → (pixels marks : List ℕ) → Fit (reading f lent) k pixels marks
-      → Shows (rowOf (reading f lent) k) t (tileGiven pointerSize f (reading f lent) k t) (decodingGiven pointerSize f (reading f lent) k pixels marks)
+      → Shows (rowOf (reading f lent) k) t (tileGiven f (reading f lent) k t) (decodingGiven f (reading f lent) k pixels marks)
   given-shown k t is pixels marks fit =
-      rw (row-decoded f lent accepted k (is .row) pixels marks fit) (row-shown pointerSize (accepts f lent accepted .row k (is .row)) _ t (is .tile))
+      rw (row-decoded f lent accepted k (is .row) pixels marks fit) (row-shown _ (accepts f lent accepted .row k (is .row)) _ t (is .tile))
 
 pub same-shown : (f g lent other : List ℕ) → reading f lent .answer .number ≡ 0 → reading g other ≡ reading f lent
     → (k t : ℕ) → IsTile (reading f lent) k t
-    → tileGiven pointerSize g (reading f lent) k t ≡ tileGiven pointerSize f (reading f lent) k t
+    → tileGiven g (reading f lent) k t ≡ tileGiven f (reading f lent) k t
     → (pixels marks : List ℕ) → Fit (reading g other) k pixels marks
-    → Shows (rowOf (reading f lent) k) t (tileGiven pointerSize f (reading f lent) k t) (decodingGiven pointerSize g (reading g other) k pixels marks)
+    → Shows (rowOf (reading f lent) k) t (tileGiven f (reading f lent) k t) (decodingGiven g (reading g other) k pixels marks)
 same-shown f g lent other accepted read k t is same pixels marks fit =
     rw read (rw (read, same) at (given-shown g other (rw read accepted) k t (rw read is) pixels marks fit))

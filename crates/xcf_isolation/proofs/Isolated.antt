@@ -13,7 +13,6 @@ use lib.ListN.{getD}
 use Rattle.xcf_table.specs.declared.Row.{Row}
 use Rattle.xcf_tile.specs.Tile.{Tile}
 use Rattle.xcf_grid.specs.Pixels.{shown}
-use Rattle.xcf_store.specs.Pointer.{pointerSize}
 use Rattle.xcf_read.specs.Answer.{reading, rowOf}
 use Rattle.xcf_read_laws.proofs.Accepted.{accepted-sized}
 use Rattle.xcf_read_laws.proofs.AcceptedRows.{RowRead}
@@ -52,24 +51,24 @@ row-isolated size {r = r} g compression Chosen row others = record {
   good = λ t below _. row-good-when-valid size g r compression (row .width .0) (row .depth .0) (row .count) t below;
 }
 
-module _ (f g lent : List ℕ) (Chosen : ℕ → ℕ → Type 0) (accepted : reading f lent .answer .number ≡ 0) (damage : Damaged pointerSize f g (reading f lent) Chosen) where
+module _ (f g lent : List ℕ) (Chosen : ℕ → ℕ → Type 0) (accepted : reading f lent .answer .number ≡ 0) (damage : Damaged f g (reading f lent) Chosen) where
   -- a tile that is not chosen, and lent buffers
   module _ (k t : ℕ) (is : IsTile (reading f lent) k t) (free : Chosen k t → ⊥) (pixels marks pixels' marks' : List ℕ)
       (fit : Fit (reading f lent) k pixels marks) (fit' : Fit (reading g lent) k pixels' marks') where
     abbrev ShownAlike : Type 0
     ShownAlike =
-        Alike (rowOf (reading f lent) k) t (decodingGiven pointerSize f (reading f lent) k pixels marks)
-        (decodingGiven pointerSize g (reading g lent) k pixels' marks')
+        Alike (rowOf (reading f lent) k) t (decodingGiven f (reading f lent) k pixels marks)
+        (decodingGiven g (reading g lent) k pixels' marks')
 
     -- damage leaves the bytes that decide it
-    agree : Agree f g (TileByte pointerSize f (reading f lent) k t)
+    agree : Agree f g (TileByte f (reading f lent) k t)
     agree = record {
       long = damage .long;
       same = λ i. ⊎-elim (structure-same damage i)
-          (λ c. window-byte-same damage k t is free i (consumed-in-window pointerSize f (reading f lent) k t i c));
+          (λ c. window-byte-same damage k t is free i (consumed-in-window f (reading f lent) k t i c));
     }
 
-    good-alike : tileGiven pointerSize f (reading f lent) k t .mark ≡ 0 → ShownAlike
+    good-alike : tileGiven f (reading f lent) k t .mark ≡ 0 → ShownAlike
     good-alike good =
         let kept = good-tile-kept f g lent lent k t accepted (accepted-sized f lent accepted .0) (record { is = is; good = good }) agree .1 in
         alike (kept .before pixels marks fit) (kept .after pixels' marks' fit')
@@ -77,13 +76,13 @@ module _ (f g lent : List ℕ) (Chosen : ℕ → ℕ → Type 0) (accepted : rea
     window-alike : ShownAlike
     window-alike =
         let passed = pointers-passed f lent accepted k (is .row) in
-        let same = tile-same pointerSize f g _ (damage .long) (λ i lo hi. structure-same damage i (passed i lo hi)) _ t (is .tile) (window-byte-same damage k t is free) in
+        let same = tile-same _ f g _ (damage .long) (λ i lo hi. structure-same damage i (passed i lo hi)) _ t (is .tile) (window-byte-same damage k t is free) in
         alike (given-shown f lent accepted k t is pixels marks fit) (same-shown f g lent lent accepted (read-same damage lent) k t is same pixels' marks' fit')
 
     other-alike : ShownAlike
-    other-alike = go (eqb (tileGiven pointerSize f (reading f lent) k t .mark) 0) refl
+    other-alike = go (eqb (tileGiven f (reading f lent) k t .mark) 0) refl
       where
-        go : (b : Bool) → eqb (tileGiven pointerSize f (reading f lent) k t .mark) 0 ≡ b → ShownAlike
+        go : (b : Bool) → eqb (tileGiven f (reading f lent) k t .mark) 0 ≡ b → ShownAlike
         go true e = good-alike (eqb-true _ _ e)
         go false _ = window-alike
 
@@ -95,6 +94,6 @@ isolated f g lent Chosen accepted damage =
       rows = λ k below pixels marks pixels' marks' fit fit'.
           let d = row-decoded f lent accepted k below pixels marks fit in
           let e = row-decoded g lent (rw same accepted) k (rw same below) pixels' marks' fit' in
-          rw (d, e, same) (row-isolated pointerSize g _ (Chosen k) (accepts f lent accepted .row k below) (λ t inside free.
+          rw (d, e, same) (row-isolated _ g _ (Chosen k) (accepts f lent accepted .row k below) (λ t inside free.
           rw (d, e, same) at (other-alike f g lent Chosen accepted damage k t (record { row = below; tile = inside }) free pixels marks pixels' marks' fit fit')));
     }

@@ -7,7 +7,6 @@ use mathlib.Core.Logic.{inl, inr, ⊎-elim}
 use mathlib.Core.List.{List}
 use lib.ListN.{length}
 use Rattle.xcf_numbers.specs.Limit.{tableSize}
-use Rattle.xcf_store.specs.Pointer.{pointerSize}
 use Rattle.xcf_read.specs.Answer.{reading}
 use Rattle.xcf_read_laws.proofs.ReadDepends.{accepted-depends}
 use Rattle.xcf_decode_laws.specs.Given.{tileGiven}
@@ -17,17 +16,17 @@ use Rattle.xcf_isolation.proofs.Given.{pointers-passed, given-shown, sa
 
 -- a good tile of an accepted file, and a file that agrees on the bytes that decide it
 module _ (f g lent other : List ℕ) (k t : ℕ) (accepted : reading f lent .answer .number ≡ 0) (size : length other ≡ tableSize)
-    (good : GoodTile pointerSize f (reading f lent) k t) (agree : Agree f g (TileByte pointerSize f (reading f lent) k t)) where
+    (good : GoodTile f (reading f lent) k t) (agree : Agree f g (TileByte f (reading f lent) k t)) where
   read : reading g other ≡ reading f lent
   read = accepted-depends f g lent other accepted size (agree .long) (λ i s. agree .same i (inl s))
 
-  same : tileGiven pointerSize g (reading f lent) k t ≡ tileGiven pointerSize f (reading f lent) k t
+  same : tileGiven g (reading f lent) k t ≡ tileGiven f (reading f lent) k t
   unfolding Consumed
   same =
-      tile-kept pointerSize f g _ (agree .long) (λ i lo hi. agree .same i (inl (pointers-passed f lent accepted k (good .is .row) i lo hi))) _ t
+      tile-kept _ f g _ (agree .long) (λ i lo hi. agree .same i (inl (pointers-passed f lent accepted k (good .is .row) i lo hi))) _ t
       (good .is .tile) (good .good) (λ i lo hi. agree .same i (inr (lo, hi)))
 
-  kept : Kept pointerSize f g (reading f lent) (reading g other) k t
+  kept : Kept f g (reading f lent) (reading g other) k t
   kept = record {
     good = record { is = rw read (good .is); good = rw (read, same) (good .good) };
     same = rw read same;

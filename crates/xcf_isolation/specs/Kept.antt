@@ -1,5 +1,5 @@
 -- RULES, "Isolation": for one length of the file, a good tile depends on the structure bytes and on the bytes that it consumed. x and y
--- are what the reader gave for the files f and g. A pointer has `size` bytes.
+-- are what the reader gave for the files f and g.
 use Prim.Native.Nat.{ℕ, _+_, _≤_, _<_}
 use mathlib.Core.Path.{_≡_}
 use mathlib.Core.Logic.{_⊎_}
@@ -13,32 +13,32 @@ use Rattle.xcf_read.specs.Answer.{Reading, reading, rowOf}
 use Rattle.xcf_window.specs.Window.{pointerAt}
 use Rattle.xcf_grid.specs.Pixels.{shown}
 use Rattle.xcf_decode.specs.Answer.{Decoding}
-use Rattle.xcf_decode_laws.specs.Given.{pointerSizeOf, IsTile, tileGiven, Fit, decodingGiven}
+use Rattle.xcf_decode_laws.specs.Given.{IsTile, tileGiven, Fit, decodingGiven}
 
 -- tile t of row k is a tile of the file, and good
-pub record GoodTile (size : ℕ) (f : List ℕ) (x : Reading) (k t : ℕ) : Type 0 where
+pub record GoodTile (f : List ℕ) (x : Reading) (k t : ℕ) : Type 0 where
   pub is : IsTile x k t
-  pub good : tileGiven size f x k t .mark ≡ 0
+  pub good : tileGiven f x k t .mark ≡ 0
 
 -- tile t of row k consumed byte i
-unfoldable pub Consumed : ℕ → List ℕ → Reading → ℕ → ℕ → ℕ → Type 0
-Consumed size f x k t i =
-    let start = pointerAt size f (rowOf x k) t in (start ≤ i) × (i < start + tileGiven size f x k t .consumed)
+unfoldable pub Consumed : List ℕ → Reading → ℕ → ℕ → ℕ → Type 0
+Consumed f x k t i =
+    let start = pointerAt (x .answer .size) f (rowOf x k) t in (start ≤ i) × (i < start + tileGiven f x k t .consumed)
 
 -- byte i decides that tile, if it is good: the byte is a structure's, or the tile consumed it
-abbrev pub TileByte : ℕ → List ℕ → Reading → ℕ → ℕ → ℕ → Type 0
-TileByte size f x k t i = structureByte size f i ⊎ Consumed size f x k t i
+abbrev pub TileByte : List ℕ → Reading → ℕ → ℕ → ℕ → Type 0
+TileByte f x k t i = structureByte f i ⊎ Consumed f x k t i
 
 -- a good tile consumed byte i
-pub record ConsumedByGood (size : ℕ) (f : List ℕ) (x : Reading) (i : ℕ) : Type 0 where
+pub record ConsumedByGood (f : List ℕ) (x : Reading) (i : ℕ) : Type 0 where
   pub k : ℕ
   pub t : ℕ
-  pub good : GoodTile size f x k t
-  pub consumed : Consumed size f x k t i
+  pub good : GoodTile f x k t
+  pub consumed : Consumed f x k t i
 
 -- byte i decides what is read, or a good tile: it is a structure's, or a good tile consumed it
-abbrev pub GoodByte : ℕ → List ℕ → Reading → ℕ → Type 0
-GoodByte size f x i = structureByte size f i ⊎ ConsumedByGood size f x i
+abbrev pub GoodByte : List ℕ → Reading → ℕ → Type 0
+GoodByte f x i = structureByte f i ⊎ ConsumedByGood f x i
 
 -- g has f's length, and f's bytes at these places
 pub record Agree (f g : List ℕ) (Places : ℕ → Type 0) : Type 0 where
@@ -53,11 +53,11 @@ pub record Shows (r : Row) (t : ℕ) (given : Tile) (d : Decoding) : Type 0 wher
 
 -- tile t of row k is good in g, and its own answer is the same as in f; and so the decoder shows it, before in f and after in g, in
 -- buffers that fit, whatever these held
-pub record Kept (size : ℕ) (f g : List ℕ) (x y : Reading) (k t : ℕ) : Type 0 where
-  pub good : GoodTile size g y k t
-  pub same : tileGiven size g y k t ≡ tileGiven size f x k t
-  pub before : (pixels marks : List ℕ) → Fit x k pixels marks → Shows (rowOf x k) t (tileGiven size f x k t) (decodingGiven size f x k pixels marks)
-  pub after : (pixels marks : List ℕ) → Fit y k pixels marks → Shows (rowOf x k) t (tileGiven size f x k t) (decodingGiven size g y k pixels marks)
+pub record Kept (f g : List ℕ) (x y : Reading) (k t : ℕ) : Type 0 where
+  pub good : GoodTile g y k t
+  pub same : tileGiven g y k t ≡ tileGiven f x k t
+  pub before : (pixels marks : List ℕ) → Fit x k pixels marks → Shows (rowOf x k) t (tileGiven f x k t) (decodingGiven f x k pixels marks)
+  pub after : (pixels marks : List ℕ) → Fit y k pixels marks → Shows (rowOf x k) t (tileGiven f x k t) (decodingGiven g y k pixels marks)
 
 -- any file that is accepted, any good tile of it, any file that agrees with it on the bytes that decide this tile: it is read the same,
 -- hence accepted, whatever the tables held, and the tile is kept
@@ -66,9 +66,8 @@ GoodTileKept =
     (f g lent other : List ℕ) (k t : ℕ) →
     let x = reading f lent in
     let y = reading g other in
-    let size = pointerSizeOf x in
-    x .answer .number ≡ 0 → length other ≡ tableSize → GoodTile size f x k t → Agree f g (TileByte size f x k t)
-    → (y ≡ x) × Kept size f g x y k t
+    x .answer .number ≡ 0 → length other ≡ tableSize → GoodTile f x k t → Agree f g (TileByte f x k t)
+    → (y ≡ x) × Kept f g x y k t
 
 -- the same of all good tiles at once
 abbrev pub GoodTilesKept : Type 0
@@ -76,6 +75,5 @@ GoodTilesKept =
     (f g lent other : List ℕ) →
     let x = reading f lent in
     let y = reading g other in
-    let size = pointerSizeOf x in
-    x .answer .number ≡ 0 → length other ≡ tableSize → Agree f g (GoodByte size f x)
-    → (y ≡ x) × ((k t : ℕ) → GoodTile size f x k t → Kept size f g x y k t)
+    x .answer .number ≡ 0 → length other ≡ tableSize → Agree f g (GoodByte f x)
+    → (y ≡ x) × ((k t : ℕ) → GoodTile f x k t → Kept f g x y k t)

@@ -24,7 +24,6 @@ use Rattle.xcf_walk.specs.Walk.{Outcome, got, refused, run}
 use Rattle.xcf_laws.proofs.Cases.{below-or, by-cases}
 use Rattle.xcf_table.specs.Table.{rowAt}
 use Rattle.xcf_read.specs.declared.ReadAnswer.{ReadAnswer}
-use Rattle.xcf_store.specs.Pointer.{pointerSize}
 use Rattle.xcf_read.specs.Image.{Image, image}
 use Rattle.xcf_read.specs.Answer.{refusal, Reading, readingOf, reading, Read}
 use Rattle.xcf_read_laws.proofs.Accepted.{accepted-sized, read-walked, accepted-exactly}
@@ -38,7 +37,7 @@ no-row : (table : List ℕ) → length table ≡ tableSize → rowAt table table
 unfolding rowAt
 no-row table size = rw size
 
-few-rows : {size : ℕ} {f : List ℕ} {x : Reading} → Accepts size f x → x .answer .rows ≤ tableRows
+few-rows : {f : List ℕ} {x : Reading} → Accepts f x → x .answer .rows ≤ tableRows
 few-rows {x = x} a =
     ⊎-elim
     (λ below. omega arith)
@@ -61,7 +60,7 @@ no-rows : (file table : List ℕ) → (reading file table .answer .number ≡ 0 
 unfolding reading
 no-rows file table =
     by-cases Says (eqb (length table) tableSize) _ _
-    (λ _. by-cases Says (leb (length file) fileLimit) _ _ (λ _. walked (run (image pointerSize) file 0)) (λ _ _. refl))
+    (λ _. by-cases Says (leb (length file) fileLimit) _ _ (λ _. walked (run image file 0)) (λ _ _. refl))
     (λ _ _. refl)
   where
     Says : Reading → Type 0
@@ -91,7 +90,7 @@ module _ (limit : ℕ) (file table text : List ℕ) where
   -- the lines of a reading, put at the text's start
   module _ (fit : lentFits (length table) (length text) ≡ true) {new : List ℕ} {r : ListAnswer} where
     lists-put : {x : Reading} → readingWithin limit file table ≡ x
-        → r ≡ listAnswer (x .answer .number) (x .answer .place) (markedTiles file (x .table) (x .answer .compression) 0 (x .answer .rows)) (r .length)
+        → r ≡ listAnswer (x .answer .number) (x .answer .place) (markedTiles (x .answer .size) file (x .table) (x .answer .compression) 0 (x .answer .rows)) (r .length)
         → PutWithin text 0 (linesOf file x) textSize (r .length) new → Lists limit file table text r (x .table) new
     unfolding listing answerOf lentFits
     lists-put {x} e a p =
@@ -120,8 +119,8 @@ module _ (limit : ℕ) (file table text : List ℕ) where
           (lists-put (within limit file table short) (rw (none, ← read .answer) e) (rw (← read .answer, ne-eqb _ _ n) p))
 
       -- the canvas's line, and the rows' behind it
-      pub lists-accepted : a .number ≡ 0 → r ≡ listAnswer 0 0 (markedTiles file after (a .compression) 0 (a .rows)) (r .length)
-          → PutWithin text 0 (canvasLine a ++ rowLines file after (a .compression) 0 (a .rows)) textSize (r .length) new
+      pub lists-accepted : a .number ≡ 0 → r ≡ listAnswer 0 0 (markedTiles (a .size) file after (a .compression) 0 (a .rows)) (r .length)
+          → PutWithin text 0 (canvasLine a ++ rowLines (a .size) file after (a .compression) 0 (a .rows)) textSize (r .length) new
           → Lists limit file table text r after new
       unfolding linesOf
       lists-accepted n e p =

@@ -16,7 +16,6 @@ use Rattle.xcf_table.specs.declared.Row.{Row}
 use Rattle.xcf_table.specs.Table.{rowAt}
 use Rattle.xcf_laws.proofs.Cases.{by-cases}
 use Rattle.xcf_walk.specs.Pointers.{tiles}
-use Rattle.xcf_store.specs.Pointer.{pointerSize}
 use Rattle.xcf_grid.proofs.FewTiles.{few-tiles}
 use Rattle.xcf_decode.specs.declared.DecodeAnswer.{DecodeAnswer}
 use Rattle.xcf_window.specs.Window.{tile}
@@ -60,27 +59,27 @@ marked-few size file table k compression =
     (λ e. range-few size compression file (drawable-ready size file n r compression true (eqb-true _ 0 e) .0 .range))
     (λ _. omega (arith, refusal-none size file n r compression))
 
-module _ (file table : List ℕ) (compression : ℕ) where
-  pub tiles-few : (k n : ℕ) → markedTiles file table compression k n ≤ 65536 * n
+module _ (size : ℕ) (file table : List ℕ) (compression : ℕ) where
+  pub tiles-few : (k n : ℕ) → markedTiles size file table compression k n ≤ 65536 * n
   unfolding markedTiles
   tiles-few k zero = omega arith
-  tiles-few k (suc n) = omega (arith, marked-few pointerSize file table k compression, tiles-few (k + 1) n)
+  tiles-few k (suc n) = omega (arith, marked-few size file table k compression, tiles-few (k + 1) n)
 
   -- n + 1 rows: the last one's beside those of the first n
-  tiles-next : (k n : ℕ) → markedTiles file table compression k (suc n)
-      ≡ markedTiles file table compression k n + counting pointerSize file table (k + n) compression .marked
+  tiles-next : (k n : ℕ) → markedTiles size file table compression k (suc n)
+      ≡ markedTiles size file table compression k n + counting size file table (k + n) compression .marked
   unfolding markedTiles
-  tiles-next k zero = omega (arith, ap (λ (j : ℕ). counting pointerSize file table j compression .marked) (add-zero k))
+  tiles-next k zero = omega (arith, ap (λ (j : ℕ). counting size file table j compression .marked) (add-zero k))
   tiles-next k (suc n) =
       let last : k + 1 + n ≡ k + suc n = omega arith in
-      omega (arith, tiles-next (k + 1) n, ap (λ (j : ℕ). counting pointerSize file table j compression .marked) last)
+      omega (arith, tiles-next (k + 1) n, ap (λ (j : ℕ). counting size file table j compression .marked) last)
 
   -- before the first turn
-  pub tiles-start : 0 ≡ markedTiles file table compression 0 0
+  pub tiles-start : 0 ≡ markedTiles size file table compression 0 0
   unfolding markedTiles
   tiles-start = refl
 
   -- a turn
-  pub tiles-turn : (k : ℕ) {m n : ℕ} → m ≡ markedTiles file table compression 0 k → n ≡ counting pointerSize file table k compression .marked
-      → m + n ≡ markedTiles file table compression 0 (k + 1)
+  pub tiles-turn : (k : ℕ) {m n : ℕ} → m ≡ markedTiles size file table compression 0 k → n ≡ counting size file table k compression .marked
+      → m + n ≡ markedTiles size file table compression 0 (k + 1)
   tiles-turn k d e = rw (add-one, tiles-next 0 k, zero-add, d, e)

@@ -8,29 +8,28 @@ use lib.ListN.{length, drop}
 use lib.Dec.{leb, eqb}
 use Rattle.xcf_numbers.specs.Limit.{fileLimit, tableSize}
 use Rattle.xcf_numbers.specs.Refusal
-use Rattle.xcf_store.specs.Pointer.{pointerSize}
 use Rattle.xcf_read.specs.Answer.{refusal, Reading, reading}
 use Rattle.xcf_decode.specs.Answer.{counting}
 use Rattle.xcf_listing.specs.declared.ListAnswer.{ListAnswer}
 use Rattle.xcf_line.specs.Line.{refusedLine, canvasLine}
 use Rattle.xcf_row_line.specs.RowLine.{rowLine}
 
--- n rows from row k on
-unfoldable pub rowLines : List ℕ → List ℕ → ℕ → ℕ → ℕ → List ℕ
-rowLines file table compression k zero = []
-rowLines file table compression k (suc n) =
-    rowLine table k (counting pointerSize file table k compression .marked) ++ rowLines file table compression (k + 1) n
+-- n rows from row k on; a pointer has `size` bytes
+unfoldable pub rowLines : ℕ → List ℕ → List ℕ → ℕ → ℕ → ℕ → List ℕ
+rowLines size file table compression k zero = []
+rowLines size file table compression k (suc n) =
+    rowLine table k (counting size file table k compression .marked) ++ rowLines size file table compression (k + 1) n
 
 -- the marked tiles of n rows from row k on
-unfoldable pub markedTiles : List ℕ → List ℕ → ℕ → ℕ → ℕ → ℕ
-markedTiles file table compression k zero = 0
-markedTiles file table compression k (suc n) =
-    counting pointerSize file table k compression .marked + markedTiles file table compression (k + 1) n
+unfoldable pub markedTiles : ℕ → List ℕ → List ℕ → ℕ → ℕ → ℕ → ℕ
+markedTiles size file table compression k zero = 0
+markedTiles size file table compression k (suc n) =
+    counting size file table k compression .marked + markedTiles size file table compression (k + 1) n
 
 unfoldable pub linesOf : List ℕ → Reading → List ℕ
 linesOf file x =
     cond (eqb (x .answer .number) 0)
-    (canvasLine (x .answer) ++ rowLines file (x .table) (x .answer .compression) 0 (x .answer .rows))
+    (canvasLine (x .answer) ++ rowLines (x .answer .size) file (x .table) (x .answer .compression) 0 (x .answer .rows))
     (refusedLine (x .answer .number) (x .answer .place))
 
 -- the most bytes of a file whose listing is printed; a longer one is refused as too long
@@ -63,7 +62,7 @@ listAnswer refused at marked size = record { number = 0; place = 0; refused = re
 -- the verdict is the reader's
 unfoldable pub answerOf : List ℕ → Reading → ListAnswer
 answerOf file x =
-    let marked = markedTiles file (x .table) (x .answer .compression) 0 (x .answer .rows) in
+    let marked = markedTiles (x .answer .size) file (x .table) (x .answer .compression) 0 (x .answer .rows) in
     listAnswer (x .answer .number) (x .answer .place) marked (length (linesOf file x))
 
 -- the call's own refusal

@@ -74,14 +74,15 @@ fn list_refused(text: &mut [u8], refused: u64, at: u64) -> ListAnswer
 // The lines of a file that is accepted.
 fn list_accepted(file: &[u8], table: &[u32], answer: ReadAnswer, text: &mut [u8]) -> ListAnswer
     requires { ⌜ (answer .compression ≤ 1) × (answer .rows ≤ tableRows) × (length (now table) ≡ tableSize) × (textSize ≤ length (now text)) ⌝ }
-    ensures { λ r. ⌜ r ≡ listAnswer 0 0 (markedTiles (now (file .entry)) (now (table .entry)) (answer .compression) 0 (answer .rows)) (r .length) ⌝ }
-    ensures { λ r. ⌜ PutWithin (now (text .entry)) 0 (canvasLine answer ++ rowLines (now (file .entry)) (now (table .entry)) (answer .compression) 0 (answer .rows)) textSize (r .length) (now (text .exit)) ⌝ }
+    ensures { λ r. ⌜ r ≡ listAnswer 0 0 (markedTiles (answer .size) (now (file .entry)) (now (table .entry)) (answer .compression) 0 (answer .rows)) (r .length) ⌝ }
+    ensures { λ r. ⌜ PutWithin (now (text .entry)) 0 (canvasLine answer ++ rowLines (answer .size) (now (file .entry)) (now (table .entry)) (answer .compression) 0 (answer .rows)) textSize (r .length) (now (text .exit)) ⌝ }
 {
     let at = put_canvas(text, answer);
     let lines = put_rows(
         file,
         table,
         answer.compression as u32,
+        answer.size as usize,
         answer.rows as u32,
         text,
         at,

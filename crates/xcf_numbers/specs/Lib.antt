@@ -3,6 +3,8 @@ pub mod Listed
 pub mod Mark
 pub mod Kind
 pub mod Base
+pub mod Version
+pub mod Precision
 pub mod PropertyType
 pub mod Flag
 pub mod Limit

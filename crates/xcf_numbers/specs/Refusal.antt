@@ -75,3 +75,7 @@ badRow = 17
 -- what is to be written exceeds the lent output, or a file the limit
 abbrev pub noRoom : ℕ
 noRoom = 18
+
+-- pixels are stored in a precision that is not read
+abbrev pub badPrecision : ℕ
+badPrecision = 25

@@ -4,5 +4,7 @@ pub mod flag;
 pub mod kind;
 pub mod limit;
 pub mod mark;
+pub mod precision;
 pub mod property_type;
 pub mod refusal;
+pub mod version;

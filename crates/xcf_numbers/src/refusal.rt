@@ -55,3 +55,6 @@ pub const BAD_ROW: u64 = 17;
 
 // What is to be written exceeds the lent output, or a file the limit.
 pub const NO_ROOM: u64 = 18;
+
+// Pixels are stored in a precision that is not read.
+pub const BAD_PRECISION: u32 = 25;

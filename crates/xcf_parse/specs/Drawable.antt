@@ -1,4 +1,4 @@
--- The structure of a layer, and of a mask or channel.
+-- The structure of a layer, and of a mask or channel. A pointer has `size` bytes.
 use Prim.Native.Nat.{ℕ}
 use lib.Dec.{eqb}
 use Rattle.xcf_numbers.specs.Refusal
@@ -38,7 +38,7 @@ unfoldable pub fields : ℕ → ℕ → Walk Fields
 fields size kind = do
   name ← string
   list ← here
-  p ← properties kind 0
+  p ← properties size kind 0
   h ← pointer size
   done (record { name = name; list = list; properties = p; hierarchy = h })
 

@@ -22,7 +22,7 @@ pub struct Fields {
     pub name: Name,
     pub list: usize,
     pub properties: Properties,
-    pub hierarchy: u32,
+    pub hierarchy: usize,
 }
 
 pub struct FieldsRead {
@@ -35,7 +35,7 @@ pub struct Layer {
     pub height: u32,
     pub form: u32,
     pub fields: Fields,
-    pub mask: u32,
+    pub mask: usize,
 }
 
 pub struct LayerRead {
@@ -119,7 +119,7 @@ fn read_fields(cursor: Cursor, file: &[u8], size: usize, kind: u32) -> FieldsRea
 {
     let name = cursor.string(file);
     let list = name.cursor.place();
-    let p = name.cursor.properties(file, kind, 0);
+    let p = name.cursor.properties(file, size, kind, 0);
     let h = pointer(p.cursor, file, size);
     let next = h.cursor;
     if next.number != 0 {

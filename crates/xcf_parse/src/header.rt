@@ -1,10 +1,11 @@
 // The first bytes of a file, compared with fixed byte strings.
 ghost use mathlib.Core.Path.{_≡_};
-ghost use lib.ListN.{length};
+ghost use lib.ListN.{length, getD};
 ghost use Rattle.xcf_store.specs.Word.{part};
 ghost use Rattle.xcf_walk.specs.Cursor.{Leads};
-ghost use Rattle.xcf_parse.specs.Header.{same, tags, versionIn, header};
+ghost use Rattle.xcf_parse.specs.Header.{same, versions, tags, placeIn, header};
 use xcf_numbers::refusal;
+use xcf_numbers::version;
 use xcf_walk::cursor::Cursor;
 
 pub const MAGIC: [u8; 9] = *b"gimp xcf ";
@@ -16,6 +17,11 @@ pub const V001: [u8; 5] = *b"v001\0";
 pub const V002: [u8; 5] = *b"v002\0";
 
 pub const V003: [u8; 5] = *b"v003\0";
+
+pub const V011: [u8; 5] = *b"v011\0";
+
+// The versions of these tags, in their order.
+const VERSIONS: [u32; 5] = [0, 1, 2, 3, version::WIDE];
 
 pub struct VersionRead {
     pub version: u32,
@@ -43,9 +49,9 @@ fn stands(file: &[u8], at: usize, want: &[u8]) -> bool
     true
 }
 
-// The version whose tag stands at a place, or 4.
-fn version_at(file: &[u8], at: usize) -> u32
-    ensures { λ r. ⌜ r ≡ versionIn tags (part (now (file .entry)) at 5) ⌝ }
+// The number, among the tags, of the one that stands at a place, or 5.
+fn tag_at(file: &[u8], at: usize) -> u32
+    ensures { λ r. ⌜ r ≡ placeIn tags (part (now (file .entry)) at 5) ⌝ }
 {
     if stands(file, at, &FILE) {
         return 0;
@@ -59,7 +65,17 @@ fn version_at(file: &[u8], at: usize) -> u32
     if stands(file, at, &V003) {
         return 3;
     }
-    4
+    if stands(file, at, &V011) {
+        return 4;
+    }
+    5
+}
+
+// The version of the tag of this number; 0 where there is none.
+fn version_of(tag: u32) -> u32
+    ensures { λ r. ⌜ r ≡ getD versions tag 0 ⌝ }
+{
+    if tag < 5 { VERSIONS[tag as usize] } else { 0 }
 }
 
 pub(crate) fn header(cursor: Cursor, file: &[u8]) -> VersionRead
@@ -70,10 +86,10 @@ pub(crate) fn header(cursor: Cursor, file: &[u8]) -> VersionRead
     let second = first.check(stands(file, start, &MAGIC), refusal::NOT_XCF, start);
     let at = second.at;
     let third = second.skip(file, 5);
-    let version = version_at(file, at);
-    let next = third.check(version < 4, refusal::BAD_VERSION, at);
+    let tag = tag_at(file, at);
+    let next = third.check(tag < 5, refusal::BAD_VERSION, at);
     VersionRead {
-        version,
+        version: version_of(tag),
         cursor: next,
     }
 }

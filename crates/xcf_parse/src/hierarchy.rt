@@ -8,7 +8,7 @@ ghost use Rattle.xcf_parse.specs.Hierarchy.{agrees, pointer, rest, hiera
 use xcf_grid::tile_count;
 use xcf_numbers::refusal;
 use xcf_walk::cursor::Cursor;
-use xcf_walk::cursor::WordRead;
+use xcf_walk::cursor::NumberRead;
 
 // The place of a drawable's first tile pointer.
 pub struct PlaceRead {
@@ -25,13 +25,13 @@ fn agrees(cursor: Cursor, file: &[u8], v: u32) -> Cursor
 }
 
 // A pointer that is not 0.
-pub(crate) fn pointer(cursor: Cursor, file: &[u8], size: usize) -> WordRead
+pub(crate) fn pointer(cursor: Cursor, file: &[u8], size: usize) -> NumberRead
     requires { ⌜ PointerSize size ⌝ }
     ensures { λ r. ⌜ Leads cursor (pointer size) (now (file .entry)) (r .cursor) (r .value) ⌝ }
 {
     let p = cursor.pointer(file, size);
     let next = p.cursor.check(p.value != 0, refusal::NO_POINTER, cursor.at);
-    WordRead {
+    NumberRead {
         value: p.value,
         cursor: next,
     }
@@ -70,7 +70,7 @@ pub fn hierarchy(
     let third = agrees(second, file, depth);
     let level = pointer(third, file, size);
     let fourth = rest(level.cursor, file, size);
-    let fifth = fourth.jump(level.value as usize);
+    let fifth = fourth.jump(level.value);
     let sixth = agrees(fifth, file, width);
     let seventh = agrees(sixth, file, height);
     let count = tile_count(width, height) as u32;

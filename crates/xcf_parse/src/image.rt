@@ -6,13 +6,17 @@ ghost use lib.Dec.{eqb};
 ghost use Rattle.xcf_numbers.specs.Limit.{sideLimit};
 ghost use Rattle.xcf_numbers.specs.Base;
 ghost use Rattle.xcf_walk.specs.Cursor.{Leads, Reads};
-ghost use Rattle.xcf_parse.specs.Image.{baseOk, baseType, head};
+ghost use Rattle.xcf_parse.specs.Image.{pointerSize, baseOk, baseType, precision, head};
 ghost use Rattle.xcf_parse.specs.Parts.{fileStart, noHead};
 use crate::drawable::side;
 use crate::header::header;
 use xcf_numbers::base;
+use xcf_numbers::precision::EIGHT_BIT_GAMMA;
 use xcf_numbers::refusal;
+use xcf_numbers::version;
 use xcf_property::IMAGE_LIST;
+use xcf_store::pointer::NARROW;
+use xcf_store::pointer::WIDE;
 use xcf_walk::cursor::Cursor;
 use xcf_walk::cursor::WordRead;
 use xcf_walk::cursor::start;
@@ -31,13 +35,24 @@ pub struct HeadRead {
     pub cursor: Cursor,
 }
 
+// The bytes of a pointer in a file of this version.
+pub fn pointer_size(version: u32) -> usize
+    ensures { λ r. ⌜ r ≡ pointerSize version ⌝ }
+{
+    if version == version::WIDE {
+        WIDE
+    } else {
+        NARROW
+    }
+}
+
 fn base_ok(version: u32, base: u32) -> bool
     ensures { λ r. ⌜ r ≡ baseOk version base ⌝ }
 {
     if base::INDEXED < base {
         return false;
     }
-    if version == 0 {
+    if version == version::FIRST {
         return base != base::INDEXED;
     }
     true
@@ -55,6 +70,21 @@ fn base_type(cursor: Cursor, file: &[u8], version: u32) -> WordRead
     }
 }
 
+// The precision word, where the version has one.
+fn precision(cursor: Cursor, file: &[u8], version: u32) -> Cursor
+    ensures { λ r. ⌜ Leads cursor (precision version) (now (file .entry)) r tt ⌝ }
+{
+    if version != version::WIDE {
+        return cursor;
+    }
+    let n = cursor.word(file);
+    n.cursor.check(
+        n.value == EIGHT_BIT_GAMMA,
+        refusal::BAD_PRECISION,
+        cursor.at,
+    )
+}
+
 // 1 for an indexed image.
 fn unmapped(base: u32) -> u32
     ensures { λ r. ⌜ r ≡ cond (eqb base Base.indexed) 1 0 ⌝ }
@@ -70,8 +100,9 @@ pub fn read_head(file: &[u8]) -> HeadRead
     let width = side(version.cursor, file);
     let height = side(width.cursor, file);
     let base = base_type(height.cursor, file, version.version);
-    let p = base.cursor
-        .properties(file, IMAGE_LIST, unmapped(base.value));
+    let list = precision(base.cursor, file, version.version);
+    let size = pointer_size(version.version);
+    let p = list.properties(file, size, IMAGE_LIST, unmapped(base.value));
     let next = p.cursor;
     if next.number != 0 {
         return HeadRead {

@@ -28,11 +28,13 @@ lengths =
     0 ∷ any ∷ 0 ∷ 0 ∷ 0 ∷ 4 ∷ 4 ∷ 4 ∷ 4 ∷ 4 ∷ 4 ∷ 4 ∷ 4 ∷ 4 ∷ 4 ∷ 8 ∷ 3 ∷ 1 ∷ any ∷ 8
     ∷ 4 ∷ any ∷ 4 ∷ any ∷ any ∷ any ∷ any ∷ any ∷ any ∷ 0 ∷ []
 
-unfoldable pub lengthOk : ℕ → ℕ → Bool
-lengthOk kind n =
-    cond (ltb kind (length lengths))
+-- in a file whose pointers have `size` bytes; type 5 holds a pointer, and may be as long as one
+unfoldable pub lengthOk : ℕ → ℕ → ℕ → Bool
+lengthOk size kind n =
+    cond (eqb kind PropertyType.floating && eqb n size) true
+    (cond (ltb kind (length lengths))
     (cond (eqb (getD lengths kind 0) any) true (eqb n (getD lengths kind 0)))
-    true
+    true)
 
 -- a payload of n bytes: its only byte or its first word, and its second word
 unfoldable pub contentOf : List ℕ → Content

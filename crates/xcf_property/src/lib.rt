@@ -75,9 +75,13 @@ const LENGTHS: [u32; 30] = [
     0,
 ];
 
-pub fn length_ok(kind: u32, n: u32) -> bool
-    ensures { λ r. ⌜ r ≡ lengthOk kind n ⌝ }
+// Whether a payload of this type may have n bytes where a pointer has `size`.
+pub fn length_ok(kind: u32, n: u32, size: usize) -> bool
+    ensures { λ r. ⌜ r ≡ lengthOk size kind n ⌝ }
 {
+    if (kind == property_type::FLOATING) & (n as usize == size) {
+        return true;
+    }
     if kind < 30 {
         let i = kind as usize;
         let fixed = LENGTHS[i];

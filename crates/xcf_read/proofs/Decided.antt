@@ -15,13 +15,12 @@ use Rattle.xcf_walk.proofs.Resume.{is-live, is-refused}
 use Rattle.xcf_table.specs.Table.{clearFrom, rowsIn}
 use Rattle.xcf_table.proofs.Puts.{cleared-table}
 use Rattle.xcf_parse.specs.declared.image.Head.{Head}
-use Rattle.xcf_store.specs.Pointer.{pointerSize}
 use Rattle.xcf_read.specs.Image.{Image, image}
 use Rattle.xcf_read.specs.Answer.{refusal, readingOf, reading, Read}
 use Rattle.xcf_parse.specs.Parts.{fileStart}
 
 module _ {f old : List ℕ} {end : Cursor} {h : Head} {k : ℕ} (t : List ℕ) (size : length old ≡ tableSize) (small : length f ≤ fileLimit)
-    (l : Leads fileStart (image pointerSize) f end (record { head = h; rows = rowsIn k t })) where
+    (l : Leads fileStart image f end (record { head = h; rows = rowsIn k t })) where
   decided : {o : Outcome Image} → outcome end (record { head = h; rows = rowsIn k t }) ≡ o → Read f old (readingOf o .answer) (readingOf o .table)
   unfolding resume reading
   decided e = record { answer = rw (eq-eqb _ _ size, le-leb _ _ small, ← l .gives, e); table = rw (eq-eqb _ _ size, le-leb _ _ small, ← l .gives, e) }

@@ -10,12 +10,12 @@ use Rattle.xcf_numbers.specs.Refusal
 use Rattle.xcf_walk.specs.Walk.{Outcome, got, refused, run}
 use Rattle.xcf_table.specs.Table.{noRows, tableOf, rowAt}
 use Rattle.xcf_read.specs.declared.ReadAnswer.{ReadAnswer}
-use Rattle.xcf_store.specs.Pointer.{pointerSize}
+use Rattle.xcf_parse.specs.Image.{pointerSize}
 use Rattle.xcf_read.specs.Image.{Image, image}
 use Rattle.xcf_table.specs.declared.Row.{Row}
 
 abbrev pub refusal : ℕ → ℕ → ReadAnswer
-refusal n p = record { number = n; place = p; width = 0; height = 0; base = 0; version = 0; compression = 0; rows = 0 }
+refusal n p = record { number = n; place = p; width = 0; height = 0; base = 0; version = 0; compression = 0; rows = 0; size = 0 }
 
 -- an answer, and the table's content beside it
 pub record Reading : Type 0 where
@@ -34,6 +34,7 @@ readingOf (got x q) = record {
     version = x .head .version;
     compression = x .head .compression;
     rows = x .rows .count;
+    size = pointerSize (x .head .version);
   };
   table = tableOf (x .rows);
 }
@@ -43,7 +44,7 @@ readingOf (refused n p) = record { answer = refusal n p; table = tableOf noRows 
 unfoldable pub reading : List ℕ → List ℕ → Reading
 reading file table =
     cond (eqb (length table) tableSize)
-    (cond (leb (length file) fileLimit) (readingOf (run (image pointerSize) file 0))
+    (cond (leb (length file) fileLimit) (readingOf (run image file 0))
     (record { answer = refusal Refusal.tooLong 0; table = table }))
     (record { answer = refusal Refusal.wrongBuffer 0; table = table })
 
@@ -51,7 +52,7 @@ reading file table =
 abbrev pub refusals : List ℕ
 refusals =
     Refusal.pastEnd ∷ Refusal.notXcf ∷ Refusal.badVersion ∷ Refusal.badSide ∷ Refusal.badBase ∷ Refusal.badLength ∷ Refusal.badContent
-    ∷ Refusal.tooMany ∷ Refusal.noPointer ∷ Refusal.disagrees ∷ Refusal.unendedString ∷ Refusal.badTilePointer ∷ Refusal.floating ∷ []
+    ∷ Refusal.tooMany ∷ Refusal.noPointer ∷ Refusal.disagrees ∷ Refusal.unendedString ∷ Refusal.badTilePointer ∷ Refusal.floating ∷ Refusal.badPrecision ∷ []
 
 -- the numbers of a verdict on a file, and all that the reader answers
 abbrev pub verdictNumbers : List ℕ

@@ -8,7 +8,7 @@ use Rattle.xcf_table.specs.Table.{Rows, noRows}
 use Rattle.xcf_table.specs.declared.canvas.Canvas.{Canvas}
 use Rattle.xcf_parse.specs.declared.image.Head.{Head}
 use Rattle.xcf_read.specs.Drawable.{layerRows, canvasChannelRows}
-use Rattle.xcf_parse.specs.Image.{head}
+use Rattle.xcf_parse.specs.Image.{pointerSize, head}
 
 -- the drawables at these places, each read by the walk one, behind the rows so far
 unfoldable pub drawables : (Rows → Walk Rows) → List ℕ → Rows → Walk Rows
@@ -26,15 +26,21 @@ pub record Image : Type 0 where
 unfoldable pub canvasOf : Head → Canvas
 canvasOf h = record { width = h .width; height = h .height; base = h .base }
 
-unfoldable pub image : ℕ → Walk Image
-image size = do
-  h ← head
+-- behind the head: pointers of `size` bytes to layers, then to channels, each list closed by 0, and the rows of all that they lead to
+unfoldable pub allRows : ℕ → Canvas → Walk Rows
+allRows size c = do
   layers ← pointers size layerLimit
   channels ← pointers size channelLimit
-  first ← drawables (layerRows size (canvasOf h)) layers noRows
-  all ← drawables (canvasChannelRows size (canvasOf h)) channels first
-  done (record { head = h; rows = all })
+  first ← drawables (layerRows size c) layers noRows
+  drawables (canvasChannelRows size c) channels first
+
+-- the version decides how many bytes a pointer has
+unfoldable pub image : Walk Image
+image = do
+  h ← head
+  rows ← allRows (pointerSize (h .version)) (canvasOf h)
+  done (record { head = h; rows = rows })
 
 -- a structure byte (RULES, "The walk"); of a refused file, one that is passed over before the fault
-unfoldable pub structureByte : ℕ → List ℕ → ℕ → Type 0
-structureByte size f i = PassedOver (image size) f 0 i
+unfoldable pub structureByte : List ℕ → ℕ → Type 0
+structureByte f i = PassedOver image f 0 i

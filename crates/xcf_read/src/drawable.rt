@@ -44,7 +44,7 @@ fn channel_rows(
 {
     let x = read_channel(cursor, file, size, o);
     let own = x.fields;
-    let down = x.cursor.jump(own.hierarchy as usize);
+    let down = x.cursor.jump(own.hierarchy);
     let tiles = hierarchy(down, file, size, o.width, o.height, 1);
     put_row(table, k, channel_row(o, own, tiles.place));
     let next = tiles.cursor;
@@ -74,7 +74,7 @@ fn mask_rows(
             cursor,
         };
     }
-    let aside = cursor.jump(x.mask as usize);
+    let aside = cursor.jump(x.mask);
     channel_rows(aside, file, size, table, mask_owner(x, k), k + 1)
 }
 
@@ -95,7 +95,7 @@ fn layer_rows(
     let read = read_layer(cursor, file, size, c.base);
     let x = read.layer;
     let own = x.fields;
-    let down = read.cursor.jump(own.hierarchy as usize);
+    let down = read.cursor.jump(own.hierarchy);
     let tiles = hierarchy(down, file, size, x.width, x.height, depth_of(x.form));
     put_row(table, k, layer_row(x, tiles.place, k));
     mask_rows(tiles.cursor, file, size, table, x, k)

@@ -6,7 +6,7 @@ ghost use Rattle.xcf_numbers.specs.Limit.{fileLimit, sideLimit, layerLimit, tab
 ghost use Rattle.xcf_walk.specs.Cursor.{Leads};
 ghost use Rattle.xcf_store.specs.Pointer.{PointerSize};
 ghost use Rattle.xcf_table.specs.Table.{rowsIn};
-ghost use Rattle.xcf_read.specs.Image.{canvasOf, drawables, image};
+ghost use Rattle.xcf_read.specs.Image.{canvasOf, drawables, allRows, image};
 ghost use Rattle.xcf_read.specs.Parts.{drawable, Filled, rowsMost};
 ghost use Rattle.xcf_parse.specs.Parts.{fileStart};
 use crate::drawable::RowsRead;
@@ -15,6 +15,7 @@ use xcf_numbers::kind;
 use xcf_numbers::limit::CHANNEL_LIMIT;
 use xcf_numbers::limit::LAYER_LIMIT;
 use xcf_parse::image::Head;
+use xcf_parse::image::pointer_size;
 use xcf_parse::image::read_head;
 use xcf_table::canvas::Canvas;
 use xcf_walk::cursor::Cursor;
@@ -33,7 +34,7 @@ fn drawables(
     table: &mut [u32],
     kind: u32,
     c: Canvas,
-    list: [u32; LAYER_LIMIT as usize],
+    list: [usize; LAYER_LIMIT as usize],
     n: u32,
     k: u32,
 ) -> RowsRead
@@ -46,7 +47,7 @@ fn drawables(
     let mut rows = k;
     let mut i: u32 = 0;
     while i < n {
-        let there = next.jump(list[i as usize] as usize);
+        let there = next.jump(list[i as usize]);
         let read = drawable(there, file, size, table, kind, c, rows);
         next = read.cursor;
         rows = read.rows;
@@ -65,17 +66,15 @@ fn canvas_of(h: Head) -> Canvas
     }
 }
 
-// The rows go into the table from its start.
-pub(crate) fn image(file: &[u8], size: usize, table: &mut [u32]) -> ImageRead
-    requires { ⌜ PointerSize size × (length (now file) ≤ fileLimit) × (length (now table) ≡ tableSize) ⌝ }
-    ensures { λ r. ⌜ Leads fileStart (image size) (now (file .entry)) (r .cursor) (record { head = r .head; rows = rowsIn (r .rows) (now (table .exit)) }) ⌝ }
-    ensures { λ r. ⌜ (r .rows ≤ tableRows) × (length (now (table .exit)) ≡ tableSize) ⌝ }
+// The rows behind the head: they go into the table from its start.
+fn all_rows(cursor: Cursor, file: &[u8], size: usize, table: &mut [u32], c: Canvas) -> RowsRead
+    requires { ⌜ PointerSize size × (length (now file) ≤ fileLimit) × (c .width ≤ sideLimit) × (c .height ≤ sideLimit) ⌝ }
+    requires { ⌜ length (now table) ≡ tableSize ⌝ }
+    ensures { λ r. ⌜ Filled cursor (allRows size c) (now (file .entry)) (now (table .entry)) (r .cursor) (r .rows) (now (table .exit)) ⌝ }
+    ensures { λ r. ⌜ r .rows ≤ tableRows ⌝ }
 {
-    let read = read_head(file);
-    let h = read.head;
-    let layers = read.cursor.pointers(file, size, LAYER_LIMIT);
+    let layers = cursor.pointers(file, size, LAYER_LIMIT);
     let channels = layers.cursor.pointers(file, size, CHANNEL_LIMIT);
-    let c = canvas_of(h);
     let layer_list = layers.list;
     let first = drawables(
         channels.cursor,
@@ -89,7 +88,7 @@ pub(crate) fn image(file: &[u8], size: usize, table: &mut [u32]) -> ImageRead
         0,
     );
     let channel_list = channels.list;
-    let all = drawables(
+    drawables(
         first.cursor,
         file,
         size,
@@ -99,7 +98,18 @@ pub(crate) fn image(file: &[u8], size: usize, table: &mut [u32]) -> ImageRead
         channel_list,
         channels.count,
         first.rows,
-    );
+    )
+}
+
+pub(crate) fn image(file: &[u8], table: &mut [u32]) -> ImageRead
+    requires { ⌜ (length (now file) ≤ fileLimit) × (length (now table) ≡ tableSize) ⌝ }
+    ensures { λ r. ⌜ Leads fileStart image (now (file .entry)) (r .cursor) (record { head = r .head; rows = rowsIn (r .rows) (now (table .exit)) }) ⌝ }
+    ensures { λ r. ⌜ (r .rows ≤ tableRows) × (length (now (table .exit)) ≡ tableSize) ⌝ }
+{
+    let read = read_head(file);
+    let h = read.head;
+    let size = pointer_size(h.version);
+    let all = all_rows(read.cursor, file, size, table, canvas_of(h));
     let next = all.cursor;
     ImageRead {
         head: h,

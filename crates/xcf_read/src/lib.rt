@@ -8,10 +8,10 @@ use crate::image::image;
 use xcf_numbers::limit::FILE_LIMIT;
 use xcf_numbers::limit::TABLE_SIZE;
 use xcf_numbers::refusal;
-use xcf_store::pointer::POINTER_SIZE;
+use xcf_parse::image::pointer_size;
 use xcf_table::clear_from;
 
-// What acceptance gives; a refusal's other fields are 0.
+// What acceptance gives; size is how many bytes a pointer has. A refusal's other fields are 0.
 #[repr(C)]
 pub struct ReadAnswer {
     pub number: u64,
@@ -22,6 +22,7 @@ pub struct ReadAnswer {
     pub version: u64,
     pub compression: u64,
     pub rows: u64,
+    pub size: u64,
 }
 
 fn refusal(number: u64, place: u64) -> ReadAnswer
@@ -36,6 +37,7 @@ fn refusal(number: u64, place: u64) -> ReadAnswer
         version: 0,
         compression: 0,
         rows: 0,
+        size: 0,
     }
 }
 
@@ -49,7 +51,7 @@ pub fn read(file: &[u8], table: &mut [u32]) -> ReadAnswer
     if FILE_LIMIT < file.len() {
         return refusal(refusal::TOO_LONG, 0);
     }
-    let x = image(file, POINTER_SIZE, table);
+    let x = image(file, table);
     let end = x.cursor;
     if end.number != 0 {
         clear_from(table, 0);
@@ -66,5 +68,6 @@ pub fn read(file: &[u8], table: &mut [u32]) -> ReadAnswer
         version: h.version as u64,
         compression: h.compression as u64,
         rows: x.rows as u64,
+        size: pointer_size(h.version) as u64,
     }
 }

@@ -14,7 +14,6 @@ use Rattle.xcf_numbers.specs.Limit.{fileLimit, tableSize}
 use Rattle.xcf_numbers.specs.Listed.{listed}
 use Rattle.xcf_walk.specs.Walk.{Outcome, got, refused, run}
 use Rattle.xcf_laws.proofs.Cases.{by-cases}
-use Rattle.xcf_store.specs.Pointer.{pointerSize}
 use Rattle.xcf_read.specs.Image.{Image, image}
 use Rattle.xcf_read.specs.Answer.{Reading, readingOf, reading}
 use Rattle.xcf_read_laws.proofs.Numbers.{refusals-listed}
@@ -37,24 +36,24 @@ accepted-any-table f lent other accepted size =
     let s = accepted-sized f lent accepted in rw (eq-eqb _ _ size, eq-eqb _ _ (s .0), le-leb _ _ (s .1))
 
 -- what a walk gives, a reading gives
-pub read-walked : (f lent : List ℕ) {x : Image} {q : ℕ} → length lent ≡ tableSize → length f ≤ fileLimit → run (image pointerSize) f 0 ≡ got x q
+pub read-walked : (f lent : List ℕ) {x : Image} {q : ℕ} → length lent ≡ tableSize → length f ≤ fileLimit → run image f 0 ≡ got x q
     → reading f lent ≡ readingOf (got x q)
 unfolding reading
 read-walked f lent size small e = rw (eq-eqb _ _ size, le-leb _ _ small, e)
 
 module _ (f table : List ℕ) (size : length table ≡ tableSize) (small : length f ≤ fileLimit) where
-  walked : reading f table .answer .number ≡ readingOf (run (image pointerSize) f 0) .answer .number
+  walked : reading f table .answer .number ≡ readingOf (run image f 0) .answer .number
   unfolding reading
   walked = rw (eq-eqb _ _ size, le-leb _ _ small)
 
-  pub accepted-exactly : (reading f table .answer .number ≡ 0 → (x : Image) × (q : ℕ) × (got x q ≡ run (image pointerSize) f 0))
-      × ((x : Image) (q : ℕ) → got x q ≡ run (image pointerSize) f 0 → reading f table .answer .number ≡ 0)
+  pub accepted-exactly : (reading f table .answer .number ≡ 0 → (x : Image) × (q : ℕ) × (got x q ≡ run image f 0))
+      × ((x : Image) (q : ℕ) → got x q ≡ run image f 0 → reading f table .answer .number ≡ 0)
   unfolding listed
   accepted-exactly = (
-    λ e. go (run (image pointerSize) f 0) refl (sym walked ∙ e),
+    λ e. go (run image f 0) refl (sym walked ∙ e),
     λ x q e. walked ∙ ap (λ o. readingOf o .answer .number) (sym e),
   )
     where
-      go : (o : Outcome Image) → o ≡ run (image pointerSize) f 0 → readingOf o .answer .number ≡ 0 → (x : Image) × (q : ℕ) × (got x q ≡ run (image pointerSize) f 0)
+      go : (o : Outcome Image) → o ≡ run image f 0 → readingOf o .answer .number ≡ 0 → (x : Image) × (q : ℕ) × (got x q ≡ run image f 0)
       go (got x q) e n = (x, q, e)
-      go (refused m p) e n = absurd (false≢true (rw n at (refusals-listed pointerSize (omega arith) f m p e)))
+      go (refused m p) e n = absurd (false≢true (rw n at (refusals-listed f m p e)))

@@ -21,11 +21,12 @@ use Rattle.xcf_grid.specs.Grid.{tileCount}
 use Rattle.xcf_table.specs.declared.canvas.Canvas.{Canvas}
 use Rattle.xcf_parse.specs.declared.drawable.Layer.{Layer}
 use Rattle.xcf_parse.specs.declared.drawable.Owner.{Owner}
+use Rattle.xcf_parse.specs.Image.{pointerSize}
 use Rattle.xcf_parse.specs.Hierarchy.{agrees, pointer, rest, hierarchy}
 use Rattle.xcf_walk.specs.Pointers.{tiles}
 use Rattle.xcf_row.specs.Row.{channelRow, maskOwner, layerRow, channelOwner}
 use Rattle.xcf_read.specs.Drawable.{channelRows, maskRows, layerRows, canvasChannelRows}
-use Rattle.xcf_read.specs.Image.{drawables, Image, image, structureByte}
+use Rattle.xcf_read.specs.Image.{drawables, Image, allRows, image, structureByte}
 use Rattle.xcf_walk_laws.proofs.Ensures.{Ensures, ensures-done, ensures-weaken, ensures-both, ensures-bind, ensures-next, ensures-cond}
 use Rattle.xcf_read_laws.proofs.Names.{layer-told, channel-told, ensures-layer-name, ensures-channel-name}
 use Rattle.xcf_read_laws.proofs.Ranges.{Side, Depth, ensures-layer, ensures-channel, ensures-head, ensures-pointers}
@@ -45,11 +46,11 @@ pub record RowRead (size : ℕ) (f : List ℕ) (structure : ℕ → Type 0) (r :
   pub told : Told f r
   pub tiles : PointersRead size f structure (r .count) (r .pointers)
 
-pub record ImageRead (size : ℕ) (f : List ℕ) (x : Image) : Type 0 where
+pub record ImageRead (f : List ℕ) (x : Image) : Type 0 where
   pub few : x .rows .count ≤ tableRows
   pub long : length (x .rows .numbers) ≡ rowSize * x .rows .count
   pub compression : x .head .compression ≤ 1
-  pub row : (k : ℕ) → k < x .rows .count → RowRead size f (structureByte size f) (rowIn (x .rows .numbers) (rowSize * k))
+  pub row : (k : ℕ) → k < x .rows .count → RowRead (pointerSize (x .head .version)) f (structureByte f) (rowIn (x .rows .numbers) (rowSize * k))
 
 -- rows that were read so, at most so many
 record RowsRead (size : ℕ) (f : List ℕ) (S : ℕ → Type 0) (most : ℕ) (rows : Rows) : Type 0 where
@@ -139,14 +140,19 @@ module _ {size : ℕ} {f : List ℕ} {S : ℕ → Type 0} where
   ensures-drawables one step all h [] le x = ensures-done (more-rows-read (omega arith) x)
   ensures-drawables one step all h (p ∷ ps) le x = ensures-next (jump p) _ λ _. ensures-bind _ (h _ _ x) λ next y. ensures-drawables one step all h ps (omega arith) y
 
-ensures-image : (size : ℕ) (f : List ℕ) → Ensures f (structureByte size f) (ImageRead size f) (image size)
-unfolding image canvasChannelRows channelOwner
-ensures-image size f =
-    ensures-bind _ ensures-head λ h c. ensures-bind _ (ensures-pointers size layerLimit) λ layers l. ensures-bind _ (ensures-pointers size channelLimit) λ channels m.
-    ensures-bind _ (ensures-drawables _ 2 96 (λ _ _. ensures-layer-rows _) layers (omega arith) no-rows-read) λ first x.
-    ensures-bind _ (ensures-drawables _ 1 tableRows (λ _ _. ensures-channel-rows _ (omega arith)) channels (omega arith) x) λ all y.
+  ensures-all-rows : (c : Canvas) → Ensures f S (RowsRead size f S tableRows) (allRows size c)
+  unfolding allRows canvasChannelRows channelOwner
+  ensures-all-rows c =
+      ensures-bind _ (ensures-pointers size layerLimit) λ layers l. ensures-bind _ (ensures-pointers size channelLimit) λ channels m.
+      ensures-bind _ (ensures-drawables _ 2 96 (λ _ _. ensures-layer-rows _) layers (omega arith) no-rows-read) λ first x.
+      ensures-drawables _ 1 tableRows (λ _ _. ensures-channel-rows _ (omega arith)) channels (omega arith) x
+
+ensures-image : (f : List ℕ) → Ensures f (structureByte f) (ImageRead f) image
+unfolding image
+ensures-image f =
+    ensures-bind _ ensures-head λ h c. ensures-bind _ (ensures-all-rows _) λ rows y.
     ensures-done (record { few = y .few; long = y .long; compression = c; row = y .row })
 
-pub accepted-rows : (size : ℕ) (f : List ℕ) {x : Image} {q : ℕ} → got x q ≡ run (image size) f 0 → ImageRead size f x
+pub accepted-rows : (f : List ℕ) {x : Image} {q : ℕ} → got x q ≡ run image f 0 → ImageRead f x
 unfolding structureByte
-accepted-rows size f e = ensures-image size f .holds 0 e (λ i p. p)
+accepted-rows f e = ensures-image f .holds 0 e (λ i p. p)

@@ -7,3 +7,4 @@ pub mod Names
 pub mod AcceptedRows
 pub mod Accepts
 pub mod ReadDepends
+pub mod Widths

@@ -42,7 +42,7 @@ module _ {f : List ℕ} {S : ℕ → Type 0} where
   ensures-fields-name : (size list : ℕ) → Ensures f S (λ x. SaysUtf8 f (x .name)) (fields size list)
   unfolding fields
   ensures-fields-name size list =
-      ensures-bind _ ensures-string λ name says. ensures-next here _ λ place. ensures-next (properties list 0) _ λ p.
+      ensures-bind _ ensures-string λ name says. ensures-next here _ λ place. ensures-next (properties size list 0) _ λ p.
       ensures-next (pointer size) _ λ to. ensures-done says
 
   pub ensures-layer-name : (size base : ℕ) → Ensures f S (λ x. SaysUtf8 f (x .fields .name)) (layer size base)

@@ -4,9 +4,11 @@ use Prim.Native.Nat.{ℕ, zero, suc, _≤_}
 use mathlib.Core.Path.{_≡_, refl}
 use mathlib.Core.List.{List, [], _∷_}
 use mathlib.Core.Bool.{true}
+use native.Mathlib.Omega.{arith}
 use lib.Dec.{eqb}
 use Rattle.xcf_numbers.specs.Limit.{layerLimit, channelLimit}
 use Rattle.xcf_numbers.specs.Refusal
+use Rattle.xcf_numbers.specs.Version
 use Rattle.xcf_numbers.specs.Listed.{listed}
 use Rattle.xcf_walk.specs.Walk.{Walk, refused, run}
 use Rattle.xcf_walk.specs.Fields.{number, word, string}
@@ -14,6 +16,8 @@ use Rattle.xcf_property.specs.declared.Properties.{Properties}
 use Rattle.xcf_walk.specs.Property.{payload, colourMap, content, property, propertyTurn, properties}
 use Rattle.xcf_walk.specs.Pointers.{pointers, tiles}
 use Rattle.xcf_property.specs.Property.{isColourMap}
+use Rattle.xcf_store.proofs.Sizes.{some-bytes}
+use Rattle.xcf_parse.proofs.Versions.{version-sized}
 use Rattle.xcf_walk.proofs.Advances.{advances-first, advances-number, advances-property-turn}
 use Rattle.xcf_walk.proofs.Straight.{straight-done, straight-bind, straight-number}
 use Rattle.xcf_walk_laws.proofs.Refusals.{Refuses, refuses-done, refuses-here, refuses-length, refuses-jump, refuses-must, refuses-bytes, refuses-bind, refuses-cond, refuses-loop}
@@ -25,8 +29,8 @@ use Rattle.xcf_parse.specs.Header.{header}
 use Rattle.xcf_parse.specs.Hierarchy.{agrees, pointer, restTurn, rest, hierarchy}
 use Rattle.xcf_parse.specs.Drawable.{side, sideLike, layerType, fields, layer, channel}
 use Rattle.xcf_read.specs.Drawable.{channelRows, maskRows, layerRows, canvasChannelRows}
-use Rattle.xcf_parse.specs.Image.{baseType, head}
-use Rattle.xcf_read.specs.Image.{drawables, image}
+use Rattle.xcf_parse.specs.Image.{baseType, precision, head}
+use Rattle.xcf_read.specs.Image.{drawables, allRows, image}
 use Rattle.xcf_read.specs.Answer.{refusals}
 
 abbrev pub Numbered : {A : Type 0} → Walk A → Type 0
@@ -46,9 +50,9 @@ numbered-string =
     refuses-bind _ refuses-here λ at. refuses-bind _ numbered-word λ n. refuses-bind _ refuses-here λ place.
     refuses-bind _ (refuses-bytes n refl) λ b. refuses-bind _ (refuses-must _ Refusal.unendedString at refl) λ _. refuses-done
 
-numbered-payload : (kind at n : ℕ) → Numbered (payload kind at n)
+numbered-payload : (size kind at n : ℕ) → Numbered (payload size kind at n)
 unfolding payload listed
-numbered-payload kind at n = refuses-bind _ (refuses-must _ Refusal.badLength at refl) λ _. refuses-bind _ (refuses-bytes n refl) λ b. refuses-done
+numbered-payload size kind at n = refuses-bind _ (refuses-must _ Refusal.badLength at refl) λ _. refuses-bind _ (refuses-bytes n refl) λ b. refuses-done
 
 numbered-colour-map : (at n : ℕ) → Numbered (colourMap at n)
 unfolding colourMap listed
@@ -56,21 +60,21 @@ numbered-colour-map at n =
     refuses-bind _ (refuses-must _ Refusal.badLength at refl) λ _. refuses-bind _ refuses-here λ here. refuses-bind _ numbered-word λ count.
     refuses-bind _ (refuses-must _ Refusal.badContent here refl) λ _. refuses-bind _ (refuses-must _ Refusal.badLength at refl) λ _. refuses-bind _ (refuses-bytes _ refl) λ b. refuses-done
 
-numbered-property : (owner : ℕ) → Numbered (property owner)
+numbered-property : (size owner : ℕ) → Numbered (property size owner)
 unfolding property content
-numbered-property owner =
+numbered-property size owner =
     refuses-bind _ refuses-here λ start. refuses-bind _ numbered-word λ kind. refuses-bind _ refuses-here λ at. refuses-bind _ numbered-word λ n.
-    refuses-bind _ refuses-here λ place. refuses-bind _ (refuses-cond (isColourMap owner kind) (numbered-colour-map at n) (numbered-payload kind at n)) λ c. refuses-done
+    refuses-bind _ refuses-here λ place. refuses-bind _ (refuses-cond (isColourMap owner kind) (numbered-colour-map at n) (numbered-payload size kind at n)) λ c. refuses-done
 
-numbered-property-turn : (owner : ℕ) (p : Properties) → Numbered (propertyTurn owner p)
+numbered-property-turn : (size owner : ℕ) (p : Properties) → Numbered (propertyTurn size owner p)
 unfolding propertyTurn listed
-numbered-property-turn owner p =
-    refuses-bind _ (numbered-property owner) λ x. refuses-bind _ (refuses-must _ Refusal.floating _ refl) λ _. refuses-bind _ (refuses-must _ Refusal.badContent _ refl) λ _.
+numbered-property-turn size owner p =
+    refuses-bind _ (numbered-property size owner) λ x. refuses-bind _ (refuses-must _ Refusal.floating _ refl) λ _. refuses-bind _ (refuses-must _ Refusal.badContent _ refl) λ _.
     refuses-bind _ (refuses-must _ Refusal.badContent _ refl) λ _. refuses-done
 
-numbered-properties : (owner unmapped : ℕ) → Numbered (properties owner unmapped)
+numbered-properties : (size owner unmapped : ℕ) → Numbered (properties size owner unmapped)
 unfolding properties
-numbered-properties owner unmapped = refuses-loop (propertyTurn owner) (numbered-property-turn owner) (advances-property-turn owner) _
+numbered-properties size owner unmapped = refuses-loop (propertyTurn size owner) (numbered-property-turn size owner) (advances-property-turn size owner) _
 
 numbered-header : Numbered header
 unfolding header listed
@@ -125,7 +129,7 @@ numbered-layer-type base =
 numbered-fields : (size kind : ℕ) → Numbered (fields size kind)
 unfolding fields
 numbered-fields size kind =
-    refuses-bind _ numbered-string λ name. refuses-bind _ refuses-here λ list. refuses-bind _ (numbered-properties kind 0) λ p.
+    refuses-bind _ numbered-string λ name. refuses-bind _ refuses-here λ list. refuses-bind _ (numbered-properties size kind 0) λ p.
     refuses-bind _ (numbered-pointer size) λ h. refuses-done
 
 numbered-layer : (size base : ℕ) → Numbered (layer size base)
@@ -167,18 +171,30 @@ unfolding baseType listed
 numbered-base-type version =
     refuses-bind _ refuses-here λ at. refuses-bind _ numbered-word λ base. refuses-bind _ (refuses-must _ Refusal.badBase at refl) λ _. refuses-done
 
+numbered-precision : (version : ℕ) → Numbered (precision version)
+unfolding precision listed
+numbered-precision version =
+    refuses-cond (eqb version Version.wide)
+    (refuses-bind _ refuses-here λ at. refuses-bind _ numbered-word λ n. refuses-must _ Refusal.badPrecision at refl) refuses-done
+
 numbered-head : Numbered head
 unfolding head
 numbered-head =
     refuses-bind _ numbered-header λ version. refuses-bind _ numbered-side λ width. refuses-bind _ numbered-side λ height.
-    refuses-bind _ (numbered-base-type version) λ base. refuses-bind _ (numbered-properties 0 _) λ p. refuses-done
+    refuses-bind _ (numbered-base-type version) λ base. refuses-bind _ (numbered-precision version) λ _.
+    refuses-bind _ (numbered-properties _ 0 _) λ p. refuses-done
 
-numbered-image : (size : ℕ) → 1 ≤ size → Numbered (image size)
-unfolding image canvasChannelRows
-numbered-image size some =
-    refuses-bind _ numbered-head λ h. refuses-bind _ (numbered-pointers size layerLimit) λ layers. refuses-bind _ (numbered-pointers size channelLimit) λ channels.
+numbered-all-rows : (size : ℕ) → 1 ≤ size → (c : Canvas) → Numbered (allRows size c)
+unfolding allRows canvasChannelRows
+numbered-all-rows size some c =
+    refuses-bind _ (numbered-pointers size layerLimit) λ layers. refuses-bind _ (numbered-pointers size channelLimit) λ channels.
     refuses-bind _ (numbered-drawables _ (numbered-layer-rows size some _) layers _) λ first.
-    refuses-bind _ (numbered-drawables _ (λ rows. numbered-channel-rows size some _ rows) channels first) λ all. refuses-done
+    numbered-drawables _ (λ rows. numbered-channel-rows size some _ rows) channels first
 
-pub refusals-listed : (size : ℕ) → 1 ≤ size → (f : List ℕ) (n p : ℕ) → refused n p ≡ run (image size) f 0 → listed refusals n ≡ true
-refusals-listed size some f n p e = numbered-image size some .number f 0 e
+numbered-image : Numbered image
+unfolding image
+numbered-image =
+    refuses-bind _ numbered-head λ h. refuses-bind _ (numbered-all-rows _ (omega (arith, some-bytes (version-sized (h .version)) .0)) _) λ rows. refuses-done
+
+pub refusals-listed : (f : List ℕ) (n p : ℕ) → refused n p ≡ run image f 0 → listed refusals n ≡ true
+refusals-listed f n p e = numbered-image .number f 0 e

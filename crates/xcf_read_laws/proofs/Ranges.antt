@@ -26,7 +26,7 @@ use Rattle.xcf_parse.specs.declared.drawable.Owner.{Owner}
 use Rattle.xcf_parse.specs.Header.{header}
 use Rattle.xcf_table.specs.Canvas.{sideOk, typeOk, depths, depthOf}
 use Rattle.xcf_parse.specs.Drawable.{side, sideLike, layerType, fields, layer, channel}
-use Rattle.xcf_parse.specs.Image.{baseType, head}
+use Rattle.xcf_parse.specs.Image.{baseType, precision, head}
 use Rattle.xcf_walk.specs.Pointers.{pointers}
 use Rattle.xcf_walk_laws.proofs.Ensures.{Ensures, ensures-always, ensures-done, ensures-must, ensures-weaken, ensures-bind, ensures-next, ensures-cond, InTurn, ensures-loop}
 
@@ -90,23 +90,23 @@ module _ {f : List ℕ} {S : ℕ → Type 0} where
   unfolding channel
   ensures-channel size o = ensures-bind _ (ensures-side-like _) λ _ w. ensures-bind _ (ensures-side-like _) λ _ h. ensures-always λ _. (w, h)
 
-  compression-turn : (p : Properties) → p .compression ≤ 1 → Ensures f S (InTurn (λ x. x .compression ≤ 1)) (propertyTurn imageList p)
+  compression-turn : (size : ℕ) (p : Properties) → p .compression ≤ 1 → Ensures f S (InTurn (λ x. x .compression ≤ 1)) (propertyTurn size imageList p)
   unfolding propertyTurn
-  compression-turn p h =
-      ensures-next (property imageList) _ λ x. ensures-next (must _ Refusal.floating _) _ λ _. ensures-next (must _ Refusal.badContent _) _ λ _.
+  compression-turn size p h =
+      ensures-next (property size imageList) _ λ x. ensures-next (must _ Refusal.floating _) _ λ _. ensures-next (must _ Refusal.badContent _) _ λ _.
       ensures-bind _ (ensures-must (allowed imageList (x .kind) (x .content .first)) Refusal.badContent (x .place)) λ _ e.
       let kept = put-compression (x .kind) (x .content) p e h in
       ensures-done (by-cases (InTurn _) (eqb (x .kind) PropertyType.end) _ _ (λ _. kept) (λ _. kept))
 
-  ensures-compression : (unmapped : ℕ) → Ensures f S (λ p. p .compression ≤ 1) (properties imageList unmapped)
+  ensures-compression : (size unmapped : ℕ) → Ensures f S (λ p. p .compression ≤ 1) (properties size imageList unmapped)
   unfolding properties
-  ensures-compression unmapped = ensures-loop (propertyTurn imageList) compression-turn _ (omega arith)
+  ensures-compression size unmapped = ensures-loop (propertyTurn size imageList) (compression-turn size) _ (omega arith)
 
   pub ensures-head : Ensures f S (λ h. h .compression ≤ 1) head
   unfolding head
   ensures-head =
       ensures-next header _ λ version. ensures-next side _ λ width. ensures-next side _ λ height. ensures-next (baseType version) _ λ base.
-      ensures-bind _ (ensures-compression _) λ p h. ensures-done h
+      ensures-next (precision version) _ λ _. ensures-bind _ (ensures-compression _ _) λ p h. ensures-done h
 
   pub ensures-pointers : (size most : ℕ) → Ensures f S (λ ps. length ps ≤ most) (pointers size most)
   unfolding pointers

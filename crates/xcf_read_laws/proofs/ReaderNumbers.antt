@@ -7,14 +7,12 @@ use mathlib.Core.List.{List}
 use mathlib.Core.Bool.{true, cond, or-true}
 use lib.Dec.{leb, eqb}
 use lib.ListN.{length}
-use native.Mathlib.Omega.{arith}
 use borrow.Author.Tests.{eq-eqb}
 use Rattle.xcf_numbers.specs.Limit.{fileLimit, tableSize}
 use Rattle.xcf_numbers.specs.Refusal
 use Rattle.xcf_numbers.specs.Listed.{listed}
 use Rattle.xcf_walk.specs.Walk.{Outcome, got, refused, run}
 use Rattle.xcf_laws.proofs.Cases.{by-cases}
-use Rattle.xcf_store.specs.Pointer.{pointerSize}
 use Rattle.xcf_read.specs.Image.{Image, image}
 use Rattle.xcf_read.specs.Answer.{refusal, refusals, verdictNumbers, readerNumbers, Reading, readingOf, reading}
 use Rattle.xcf_read_laws.proofs.Numbers.{refusals-listed}
@@ -34,13 +32,13 @@ walk-listed (refused n p) h = rw (h n p refl, or-true, or-true)
 -- what the reader says of a file once the table fits
 abbrev verdict : List ℕ → List ℕ → Reading
 verdict file table =
-    cond (leb (length file) fileLimit) (readingOf (run (image pointerSize) file 0)) (record { answer = refusal Refusal.tooLong 0; table = table })
+    cond (leb (length file) fileLimit) (readingOf (run image file 0)) (record { answer = refusal Refusal.tooLong 0; table = table })
 
 file-listed : (file table : List ℕ) → Verdict (verdict file table)
 unfolding listed
 file-listed file table =
     by-cases Verdict (leb (length file) fileLimit) _ _
-    (λ _. walk-listed (run (image pointerSize) file 0) (refusals-listed pointerSize (omega arith) file)) (λ _. refl)
+    (λ _. walk-listed (run image file 0) (refusals-listed file)) (λ _. refl)
 
 pub verdict-listed : (file table : List ℕ) → length table ≡ tableSize → listed verdictNumbers (reading file table .answer .number) ≡ true
 unfolding reading

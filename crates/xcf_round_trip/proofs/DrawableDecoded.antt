@@ -2,7 +2,8 @@
 -- is read back as: the row passes every test of the decoder (`decodable`), and its tiles are decoded as `TilesDecoded` says.
 -- Assumes nothing.
 use Prim.Native.Nat.{ℕ, _≤_, _<_}
-use mathlib.Core.Path.{_≡_, sym}
+use mathlib.Core.Path.{_≡_, refl, sym}
+use mathlib.Core.Logic.{inl}
 use mathlib.Core.List.{List}
 use mathlib.Core.Bool.{true}
 use borrow.Author.Tests.{le-leb, eq-eqb}
@@ -11,7 +12,8 @@ use Rattle.xcf_numbers.specs.Limit.{fileLimit, tableSize}
 use Rattle.xcf_numbers.specs.Refusal
 use Rattle.xcf_table.specs.Table.{rowAt}
 use Rattle.xcf_range.proofs.Bounds.{bounds-within}
-use Rattle.xcf_store.specs.Pointer.{pointerSize}
+use Rattle.xcf_store.specs.Pointer.{narrow}
+use Rattle.xcf_store.proofs.Sizes.{size-ok}
 use Rattle.xcf_window.specs.Usable.{inRange, inFile, decodableRow, fits, rowRefusal}
 use Rattle.xcf_decode.specs.Answer.{refusal, drawableRefusal, decoding}
 use Rattle.xcf_window.proofs.TilePointers.{tiles-inside}
@@ -38,20 +40,20 @@ module _ {f : List ℕ} {p : ℕ} (d : Drawable) (fine : Writable d) (kind : (1 
         bounds-within _ _ _ (fine .drawn .range .deep),
       )
 
-  in-file : inFile pointerSize (length f) (readRow d p) ≡ true
+  in-file : inFile narrow (length f) (readRow d p) ≡ true
   unfolding inFile readRow
   in-file =
-      let inside = tiles-inside pointerSize (d .row .count) 0 f _ (sym (walked d s fine small some .gives)) in
+      let inside = tiles-inside narrow (d .row .count) 0 f _ (sym (walked d s fine small some .gives)) in
       rw (eq-eqb _ _ (fine .drawn .range .count), le-leb _ _ inside)
 
-  decodable : (table : ℕ) → table ≡ tableSize → drawableRefusal pointerSize f table (readRow d p) 1 true ≡ refusal Refusal.accepted 0
+  decodable : (table : ℕ) → table ≡ tableSize → drawableRefusal narrow f table (readRow d p) 1 true ≡ refusal Refusal.accepted 0
   unfolding drawableRefusal rowRefusal decodableRow
-  decodable table size = rw (eq-eqb _ _ size, le-leb _ _ small, in-range, in-file, walked d s fine small some .gives)
+  decodable table size = rw (eq-eqb _ _ size, le-leb _ _ small, size-ok {size = narrow} (inl refl), in-range, in-file, walked d s fine small some .gives)
 
 pub drawable-decoded : (d : Drawable) (p : ℕ) (f table : List ℕ) (k : ℕ) (buffer marks : List ℕ)
     → Writable d → (1 ≤ d .row .kind) × (d .row .kind ≤ 3) → length f ≤ fileLimit → 0 < p → Stands f p (drawableBytes d p)
     → length table ≡ tableSize → rowAt table k ≡ readRow d p → fits (d .row) (length buffer) (length marks) ≡ true
-    → decoding pointerSize f table k 1 buffer marks
+    → decoding narrow f table k 1 buffer marks
     ≡ record { answer = record { number = 0; place = 0; marked = 0 }; pixels = d .pixels; marks = replicate (d .row .count) 0 }
 unfolding decoding
 drawable-decoded d p f table k buffer marks fine kind small some s size row fit =

@@ -13,7 +13,7 @@ use lib.ListN.{length}
 use Rattle.xcf_numbers.specs.Flag
 use Rattle.xcf_numbers.specs.Limit.{fileLimit}
 use Rattle.xcf_numbers.specs.Kind
-use Rattle.xcf_store.specs.Pointer.{pointerSize}
+use Rattle.xcf_store.specs.Pointer.{narrow}
 use Rattle.xcf_store.specs.Word.{part}
 use Rattle.xcf_table.specs.declared.Row.{Row}
 use Rattle.xcf_table.specs.Table.{Rows, addRow}
@@ -153,7 +153,7 @@ module _ {f : List ℕ} {p : ℕ} (d : Drawable) (x : Readable d) (small : lengt
     unfolding channelRow readRow
     channel-row = rw (channel-flags (d .row) (d .hasMask) (nameAt d p) facts (x .told), facts .depth, facts .form, facts .mode, w .drawn .range .count, w .named)
 
-    reads-owned : (rows : Rows) → Gives (channelRows pointerSize (ownerOf (d .row)) rows) f p (addRow rows (readRow d p))
+    reads-owned : (rows : Rows) → Gives (channelRows narrow (ownerOf (d .row)) rows) f p (addRow rows (readRow d p))
     unfolding channelRows
     reads-owned rows =
         let isnt = ne-eqb (d .row .kind) Kind.layer other in
@@ -171,8 +171,8 @@ module _ {f : List ℕ} {p : ℕ} (d : Drawable) (x : Readable d) (small : lengt
         let flags = layer-flags (d .row) (d .hasMask) (nameAt d p) (p + drawableSize d) facts (x .told) (omega arith) in
         rw (flags, facts .kind, facts .depth, facts .owner, w .drawn .range .count, w .named)
 
-    reads-layered : {all : Rows} → ((q : ℕ) → Gives (maskRows pointerSize (layerAt d p) (rows .count) (addRow rows (readRow d p))) f q all)
-        → Gives (layerRows pointerSize c rows) f p all
+    reads-layered : {all : Rows} → ((q : ℕ) → Gives (maskRows narrow (layerAt d p) (rows .count) (addRow rows (readRow d p))) f q all)
+        → Gives (layerRows narrow c rows) f p all
     unfolding layerRows
     reads-layered mask =
         let structure =
@@ -184,12 +184,12 @@ module _ {f : List ℕ} {p : ℕ} (d : Drawable) (x : Readable d) (small : lengt
         (gives-reads (rw (← layer-row) at (mask (levels .end)))))))
 
 -- a layer's mask, or none
-no-mask : {f : List ℕ} {q : ℕ} (x : Layer) (k : ℕ) (rows : Rows) → x .mask ≡ 0 → Gives (maskRows pointerSize x k rows) f q rows
+no-mask : {f : List ℕ} {q : ℕ} (x : Layer) (k : ℕ) (rows : Rows) → x .mask ≡ 0 → Gives (maskRows narrow x k rows) f q rows
 unfolding maskRows
 no-mask x k rows none = rw (eq-eqb (x .mask) 0 none) (reads-gives ends)
 
 mask-next : {f : List ℕ} {q place : ℕ} (x : Layer) (k : ℕ) (rows : Rows) {all : Rows} → x .mask ≡ place → 0 < place
-    → Gives (channelRows pointerSize (maskOwner x k) rows) f place all → Gives (maskRows pointerSize x k rows) f q all
+    → Gives (channelRows narrow (maskOwner x k) rows) f place all → Gives (maskRows narrow x k rows) f q all
 unfolding maskRows
 mask-next x k rows at some mask =
     rw (ne-eqb (x .mask) 0 (λ e. omega arith)) (reads-gives (then _ (reads-jump (x .mask)) (gives-reads (rw (← at) at mask))))
@@ -208,14 +208,14 @@ canvas-owner c k r facts = rw (facts .kind, facts .width, facts .height, facts .
 module _ {f : List ℕ} {p : ℕ} (small : length f ≤ fileLimit) (some : 0 < p) (c : Canvas) (rows : Rows) (d : Drawable)
     (x : Readable d) (s : Stands f p (drawableBytes d p)) where
   pub reads-layer : LayerFacts c (rows .count) (d .row) (d .hasMask) → d .hasMask ≡ false
-      → Gives (layerRows pointerSize c rows) f p (addRow rows (readRow d p))
+      → Gives (layerRows narrow c rows) f p (addRow rows (readRow d p))
   reads-layer facts unmasked =
       reads-layered d x small some s c rows facts (λ q. no-mask (layerAt d p) (rows .count) _ (rw unmasked))
 
   pub reads-masked : LayerFacts c (rows .count) (d .row) (d .hasMask) → d .hasMask ≡ true → (m : Drawable) → Readable m
       → Stands f (p + drawableSize d) (drawableBytes m (p + drawableSize d)) → ChannelFacts (m .row)
       → MaskFacts (rows .count + 1) (d .row) (m .row)
-      → Gives (layerRows pointerSize c rows) f p (addRow (addRow rows (readRow d p)) (readRow m (p + drawableSize d)))
+      → Gives (layerRows narrow c rows) f p (addRow (addRow rows (readRow d p)) (readRow m (p + drawableSize d)))
   reads-masked facts masked m y t numbers mask =
       let place : maskAt d p ≡ p + drawableSize d = rw masked in
       let owned =
@@ -224,7 +224,7 @@ module _ {f : List ℕ} {p : ℕ} (small : length f ≤ fileLimit) (some : 0 < p
       (λ q. mask-next (layerAt d p) (rows .count) _ place (omega arith) (rw (← mask-owner d m p (rows .count) mask) at owned))
 
   pub reads-channel : ChannelFacts (d .row) → CanvasFacts c (rows .count) (d .row)
-      → Gives (canvasChannelRows pointerSize c rows) f p (addRow rows (readRow d p))
+      → Gives (canvasChannelRows narrow c rows) f p (addRow rows (readRow d p))
   unfolding canvasChannelRows
   reads-channel facts canvas =
       rw (canvas-owner c (rows .count) (d .row) canvas)

@@ -10,7 +10,7 @@ use lib.Dec.{eqb}
 use lib.ListN.{length}
 use Rattle.xcf_numbers.specs.Limit.{fileLimit, sideLimit, depthLimit}
 use Rattle.xcf_numbers.specs.Refusal
-use Rattle.xcf_store.specs.Pointer.{pointerSize}
+use Rattle.xcf_store.specs.Pointer.{narrow}
 use Rattle.xcf_walk.specs.Walk.{turns, loop}
 use Rattle.xcf_walk.specs.Fields.{word}
 use Rattle.xcf_table.specs.declared.Row.{Row}
@@ -29,19 +29,19 @@ module _ {f : List ℕ} {p : ℕ} (n : ℕ) (ns : List ℕ) (low : n < 429496729
   unfolding agrees word
   reads-agrees = then-here _ (then _ (reads-number n ns s low) (reads-must (eqb n n) Refusal.disagrees p (eq-eqb n n refl)))
 
-  pub reads-pointer : 0 < n → ReadsTo (pointer pointerSize) f p n (p + 4)
+  pub reads-pointer : 0 < n → ReadsTo (pointer narrow) f p n (p + 4)
   unfolding pointer
   reads-pointer some =
       then-here _ (then _ (reads-number n ns s low) (then _ (reads-must _ Refusal.noPointer p (rw (ne-eqb n 0 (λ e. omega arith)))) ends))
 
 -- a 0 where further pointers could stand
-reads-rest : {f : List ℕ} {p : ℕ} → Stands f p (words (0 ∷ [])) → ReadsTo (rest pointerSize) f p tt (p + 4)
+reads-rest : {f : List ℕ} {p : ℕ} → Stands f p (words (0 ∷ [])) → ReadsTo (rest narrow) f p tt (p + 4)
 unfolding rest loop turns restTurn
 reads-rest s = then-length _ (then _ (then _ (reads-number 0 [] s (omega arith)) ends) ends)
 
 -- tile pointers that rise
 pub reads-tiles : {f : List ℕ} {p : ℕ} (before : ℕ) (ps : List ℕ) → length f ≤ fileLimit → Rises before ps (length f)
-    → Stands f p (words (ps ++ (0 ∷ []))) → Gives (tiles pointerSize (length ps) before) f p tt
+    → Stands f p (words (ps ++ (0 ∷ []))) → Gives (tiles narrow (length ps) before) f p tt
 unfolding tiles Rises
 reads-tiles before [] small rise s =
     reads-gives (then-here _ (then _ (reads-number 0 [] s (omega arith)) (reads-must _ Refusal.badTilePointer _ refl)))

@@ -2,7 +2,7 @@
 -- And each used row's drawable stands in the file at its place (`stands-drawable`).
 -- Assumes nothing.
 use Prim.Native.Nat.{ℕ, _+_, _≤_, _<_}
-use mathlib.Core.Path.{_≡_, refl}
+use mathlib.Core.Path.{_≡_, refl, ap, _∙_}
 use mathlib.Core.List.{List, [], _∷_, _++_, flatMap}
 use mathlib.Core.Bool.{true}
 use mathlib.Core.Logic.{_⊎_, inl, inr}
@@ -15,16 +15,16 @@ use lib.Seq.{take-length}
 use Rattle.xcf_numbers.specs.Limit.{fileLimit, sideLimit, layerLimit, channelLimit}
 use Rattle.xcf_numbers.specs.Kind
 use Rattle.xcf_numbers.specs.Refusal
-use Rattle.xcf_store.specs.Pointer.{pointerSize}
+use Rattle.xcf_store.specs.Pointer.{narrow}
 use Rattle.xcf_walk.specs.Fields.{word}
 use Rattle.xcf_table.specs.Table.{noRows}
 use Rattle.xcf_range.proofs.Bounds.{within-bounds}
 use Rattle.xcf_table.specs.declared.canvas.Canvas.{Canvas}
 use Rattle.xcf_parse.specs.declared.image.Head.{Head}
-use Rattle.xcf_parse.specs.Header.{same, magic, tags, versionIn, header}
+use Rattle.xcf_parse.specs.Header.{same, magic, versions, tags, placeIn, header}
 use Rattle.xcf_table.specs.Canvas.{sideOk}
-use Rattle.xcf_parse.specs.Image.{baseOk, baseType, head}
-use Rattle.xcf_read.specs.Image.{canvasOf, image}
+use Rattle.xcf_parse.specs.Image.{pointerSize, baseOk, baseType, precision, head}
+use Rattle.xcf_read.specs.Image.{canvasOf, allRows, image}
 use Rattle.xcf_store.specs.Word.{wordBytes, words}
 use Rattle.xcf_structure.specs.Structure.{propertyBytes, listBytes}
 use Rattle.xcf_image.specs.Image.{imageProperties, versionOf, imageBytes, imageOf}
@@ -50,10 +50,20 @@ use Rattle.xcf_round_trip.proofs.RowsRead.{placeAt, place-some, drawabl
 abbrev Known : ℕ → Type 0
 Known v = (v ≡ 0) ⊎ (v ≡ 2)
 
-tag-known : (v : ℕ) → Known v → (versionIn tags (getD tags v []) ≡ v) × (ltb v 4 ≡ true)
-unfolding same versionIn
-tag-known v (inl e) = rw e (refl, refl)
-tag-known v (inr e) = rw e (refl, refl)
+tag-known : (v : ℕ) → Known v → (placeIn tags (getD tags v []) ≡ v) × (ltb v 5 ≡ true) × (getD versions v 0 ≡ v)
+unfolding same placeIn
+tag-known v (inl e) = rw e (refl, refl, refl)
+tag-known v (inr e) = rw e (refl, refl, refl)
+
+-- they have no precision word, and pointers of four bytes
+reads-no-precision : {f : List ℕ} {p : ℕ} (v : ℕ) → Known v → ReadsTo (precision v) f p tt p
+unfolding precision
+reads-no-precision v (inl e) = rw e ends
+reads-no-precision v (inr e) = rw e ends
+
+pub size-known : (v : ℕ) → Known v → pointerSize v ≡ narrow
+size-known v (inl e) = rw e
+size-known v (inr e) = rw e
 
 base-ok : (v base : ℕ) → Known v → base ≤ 1 → baseOk v base ≡ true
 unfolding baseOk
@@ -67,7 +77,7 @@ reads-header v w s t =
     let known = tag-known v w in
     let tag = rw (tag-length v w) at (reads-bytes (getD tags v []) t) in
     then-here _ (then _ (reads-bytes magic s) (then _ (reads-must _ Refusal.notXcf 0 refl)
-    (then-here _ (then _ tag (then _ (reads-must _ Refusal.badVersion 9 (rw (known .0, known .1))) (ends-as (known .0)))))))
+    (then-here _ (then _ tag (then _ (reads-must _ Refusal.badVersion 9 (rw (known .0, known .1))) (ends-as (ap (λ k. getD versions k 0) (known .0) ∙ known .2)))))))
 
 reads-base : {f : List ℕ} {p : ℕ} (v base : ℕ) → Known v → base ≤ 1 → Stands f p (words (base ∷ []))
     → ReadsTo (baseType v) f p base (p + 4)
@@ -113,8 +123,9 @@ module _ {f : List ℕ} (c : Canvas) (v : ℕ) (layers channels : List ℕ) (w :
       (then _ (reads-side _ _ (within-bounds 1 sideLimit (c .width) wide) sides)
       (then _ (reads-side _ _ (within-bounds 1 sideLimit (c .height) high) lower)
       (then _ (reads-base v (c .base) w base (words-rest _ _ lower))
+      (then _ (reads-no-precision v w)
       (rw (ne-eqb (c .base) 2 (λ z. absurd (omega arith)))
-      (then _ (reads-image-properties (stands-front _ _ behind-sides)) ends)))))
+      (then _ (reads-image-properties _ (stands-front _ _ behind-sides)) ends))))))
 
 -- the file of a table's used rows, and where row k's drawable stands in it
 abbrev pub rowPlace : Canvas → List ℕ → List ℕ → List ℕ → ℕ → ℕ
@@ -166,23 +177,32 @@ module _ (c : Canvas) (table names pixels : List ℕ) where
       rw (drawable-at table names d (usedRows table) k pixels h) at
       (drawable-stands ds start d k drawables-stand (rw rows-length h))
 
-  pub image-read : ((i : ℕ) → getD table i 0 < 4294967296) → InputAccepted c table names (length pixels)
-      → length file ≤ fileLimit
-      → Gives (image pointerSize) file 0 (record { head = headOf c version; rows = addAll noRows ds start })
-  unfolding image canvasOf
-  image-read low a small =
-      let known = version-old-or-new (rowsOf ds) in
-      let layers = placesOf Kind.layer ds start in
-      let few = places-few c table names pixels low a start in
-      let behind = behind-list c version layers (placesOf Kind.channel ds start) known image-stands in
-      let rise : (kind : ℕ) → Rises 0 (placesOf kind ds start) (length file) =
-      λ kind. places-rise kind ds 0 start (length file) image-some (drawables-stand .inside) in
-      let order = drawables-ordered c table names pixels low a in
-      let readable = drawables-readable c table names pixels low a in
-      let rows = reads-rows small c start noRows order readable image-some drawables-stand in
-      let first = rows .first .at _ in
-      reads-gives
-      (then _ (reads-head c version layers _ known image-stands (a .wide) (a .high) (a .base))
-      (then _ (reads-pointers layerLimit 0 (length file) layers (omega arith) (rise 1) (few .0) (stands-front _ _ behind))
-      (then _ (reads-pointers channelLimit 0 (length file) _ (omega arith) (rise 3) (few .1) (stands-behind (closed layers) _ behind))
-      (then _ (gives-reads first) (then _ (gives-reads (rows .last .at (first .end))) ends)))))
+  -- what is lent to the writer and accepted, in a file within the limit
+  module _ (low : (i : ℕ) → getD table i 0 < 4294967296) (a : InputAccepted c table names (length pixels)) (small : length file ≤ fileLimit) where
+    known : Known version
+    known = version-old-or-new (rowsOf ds)
+
+    all-rows-read : (size : ℕ) → size ≡ narrow → Gives (allRows size c) file 43 (addAll noRows ds start)
+    unfolding allRows
+    all-rows-read size e =
+        let layers = placesOf Kind.layer ds start in
+        let few = places-few c table names pixels low a start in
+        let behind = behind-list c version layers (placesOf Kind.channel ds start) known image-stands in
+        let rise : (kind : ℕ) → Rises 0 (placesOf kind ds start) (length file) =
+        λ kind. places-rise kind ds 0 start (length file) image-some (drawables-stand .inside) in
+        let order = drawables-ordered c table names pixels low a in
+        let readable = drawables-readable c table names pixels low a in
+        let rows = reads-rows small c start noRows order readable image-some drawables-stand in
+        let first = rows .first .at _ in
+        rw e
+        (reads-gives
+        (then _ (reads-pointers layerLimit 0 (length file) layers (omega arith) (rise 1) (few .0) (stands-front _ _ behind))
+        (then _ (reads-pointers channelLimit 0 (length file) _ (omega arith) (rise 3) (few .1) (stands-behind (closed layers) _ behind))
+        (then _ (gives-reads first) (gives-reads (rows .last .at (first .end)))))))
+
+    pub image-read : Gives image file 0 (record { head = headOf c version; rows = addAll noRows ds start })
+    unfolding image canvasOf
+    image-read =
+        reads-gives
+        (then _ (reads-head c version _ _ known image-stands (a .wide) (a .high) (a .base))
+        (then _ (gives-reads (all-rows-read (pointerSize version) (size-known version known))) ends))

@@ -11,7 +11,7 @@ use lib.Dec.{eqb}
 use lib.ListN.{length}
 use Rattle.xcf_numbers.specs.Limit.{layerLimit, channelLimit, tableRows}
 use Rattle.xcf_walk.specs.Walk.{Walk, jump}
-use Rattle.xcf_walk_laws.proofs.Ensures.{Ensures, ensures-done, ensures-bind, ensures-next}
+use Rattle.xcf_walk_laws.proofs.Ensures.{Ensures, ensures-done, ensures-weaken, ensures-bind, ensures-next}
 use Rattle.xcf_table.specs.Table.{rowAt, Rows, noRows, addRow}
 use Rattle.xcf_laws.proofs.Cases.{by-cases}
 use Rattle.xcf_table.specs.declared.canvas.Canvas.{Canvas}
@@ -20,8 +20,8 @@ use Rattle.xcf_parse.specs.Hierarchy.{hierarchy}
 use Rattle.xcf_table.specs.Canvas.{depthOf}
 use Rattle.xcf_row.specs.Row.{layerRow, maskOwner, channelOwner}
 use Rattle.xcf_read.specs.Drawable.{channelRows, maskRows, layerRows, canvasChannelRows}
-use Rattle.xcf_parse.specs.Image.{head}
-use Rattle.xcf_read.specs.Image.{drawables, Image, canvasOf, image}
+use Rattle.xcf_parse.specs.Image.{pointerSize, head}
+use Rattle.xcf_read.specs.Image.{drawables, Image, canvasOf, allRows, image}
 use Rattle.xcf_read_laws.proofs.Ranges.{ensures-pointers}
 use Rattle.xcf_usable.specs.Usable.{usable}
 use Rattle.xcf_round_trip.specs.Taken.{RowExcepted, RowsExcepted}
@@ -48,9 +48,9 @@ none-taken c names table = record { size = refl; taken = λ _. taken-none c name
 abbrev pub ImageTaken : List ℕ → List ℕ → Image → Type 0
 ImageTaken names table x = Shown table (x .rows) → (k : ℕ) → k < x .rows .count → usable (canvasOf (x .head)) names table k ≡ true
 
-module _ (size : ℕ) (names table : List ℕ) (excepted : (k : ℕ) → k < tableRows → RowExcepted names (rowAt table k))
+module _ (names table : List ℕ) (excepted : (k : ℕ) → k < tableRows → RowExcepted names (rowAt table k))
     (once : RowsExcepted table) {f : List ℕ} {S : ℕ → Type 0} where
-  module _ (c : Canvas) where
+  module _ (size : ℕ) (c : Canvas) where
     channel-rows : (l m : ℕ) (rows : Rows) → m < channelLimit → RowsTaken c names table l m rows
         → Ensures f S (RowsTaken c names table l (m + 1)) (canvasChannelRows size c rows)
     unfolding canvasChannelRows channelRows channelOwner
@@ -79,14 +79,18 @@ module _ (size : ℕ) (names table : List ℕ) (excepted : (k : ℕ) → k < tab
         ensures-bind _ (layer-given size (c .base)) λ x given. ensures-next (jump _) _ λ _.
         ensures-next (hierarchy size (x .width) (x .height) (depthOf (x .form))) _ λ tiles. mask-rows l rows x tiles few given t
 
-  pub ensures-taken : Ensures f S (ImageTaken names table) (image size)
+    -- of all, some are layers and some channels
+    all-rows : Ensures f S (λ rows. (l : ℕ) × (m : ℕ) × RowsTaken c names table l m rows) (allRows size c)
+    unfolding allRows
+    all-rows =
+        ensures-bind _ (ensures-pointers size layerLimit) λ layers few. ensures-bind _ (ensures-pointers size channelLimit) λ channels less.
+        ensures-bind _ (ensures-drawables (λ l. RowsTaken c names table l 0) _ layerLimit layer-rows layers 0 (omega arith) (none-taken c names table))
+        λ first x.
+        ensures-weaken (λ rows y. (x .0, y .0, y .1))
+        (ensures-drawables (RowsTaken c names table (x .0)) _ channelLimit (channel-rows (x .0)) channels 0 (omega arith) (x .1))
+
+  pub ensures-taken : Ensures f S (ImageTaken names table) image
   unfolding image
   ensures-taken =
-      ensures-next head _ λ h. ensures-bind _ (ensures-pointers size layerLimit) λ layers few.
-      ensures-bind _ (ensures-pointers size channelLimit) λ channels less.
-      let c = canvasOf h in
-      ensures-bind _ (ensures-drawables (λ l. RowsTaken c names table l 0) _ layerLimit (layer-rows c) layers 0 (omega arith) (none-taken c names table))
-      λ first x.
-      ensures-bind _ (ensures-drawables (RowsTaken c names table (x .0)) _ channelLimit (channel-rows c (x .0)) channels 0 (omega arith) (x .1))
-      λ all y.
-      ensures-done (λ s. y .1 .taken s .rows)
+      ensures-next head _ λ h. ensures-bind _ (all-rows (pointerSize (h .version)) (canvasOf h)) λ rows y.
+      ensures-done (λ s. y .2 .taken s .rows)

@@ -29,14 +29,14 @@ module _ (list : ℕ) (drawn : eqb list imageList ≡ false) where
       go false other e = h
 
   module _ {f : List ℕ} {S : ℕ → Type 0} where
-    opacity-turn : (p : Properties) → p .opacity ≤ fullOpacity → Ensures f S (InTurn (λ x. x .opacity ≤ fullOpacity)) (propertyTurn list p)
+    opacity-turn : (size : ℕ) (p : Properties) → p .opacity ≤ fullOpacity → Ensures f S (InTurn (λ x. x .opacity ≤ fullOpacity)) (propertyTurn size list p)
     unfolding propertyTurn
-    opacity-turn p h =
-        ensures-next (property list) _ λ x. ensures-next (must _ Refusal.floating _) _ λ _. ensures-next (must _ Refusal.badContent _) _ λ _.
+    opacity-turn size p h =
+        ensures-next (property size list) _ λ x. ensures-next (must _ Refusal.floating _) _ λ _. ensures-next (must _ Refusal.badContent _) _ λ _.
         ensures-bind _ (ensures-must (allowed list (x .kind) (x .content .first)) Refusal.badContent (x .place)) λ _ e.
         let kept = put-opacity (x .kind) (x .content) p e h in
         ensures-done (by-cases (InTurn _) (eqb (x .kind) PropertyType.end) _ _ (λ _. kept) (λ _. kept))
 
-    pub ensures-opacity : (unmapped : ℕ) → Ensures f S (λ p. p .opacity ≤ fullOpacity) (properties list unmapped)
+    pub ensures-opacity : (size unmapped : ℕ) → Ensures f S (λ p. p .opacity ≤ fullOpacity) (properties size list unmapped)
     unfolding properties
-    ensures-opacity unmapped = ensures-loop (propertyTurn list) opacity-turn _ (omega arith)
+    ensures-opacity size unmapped = ensures-loop (propertyTurn size list) (opacity-turn size) _ (omega arith)

@@ -10,7 +10,7 @@ use borrow.Author.Tests.{ne-eqb}
 use lib.Dec.{eqb}
 use lib.ListN.{length, length-append}
 use Rattle.xcf_numbers.specs.Refusal
-use Rattle.xcf_store.specs.Pointer.{pointerSize}
+use Rattle.xcf_store.specs.Pointer.{narrow}
 use Rattle.xcf_walk.specs.Pointers.{pointers}
 use Rattle.xcf_store.specs.Word.{wordBytes, words, when}
 use Rattle.xcf_drawable.specs.Drawable.{Drawable, drawableSize, drawableBytes}
@@ -26,7 +26,7 @@ abbrev pub closed : List ℕ → List ℕ
 closed ps = words (ps ++ (0 ∷ []))
 
 pub reads-pointers : {f : List ℕ} {p : ℕ} (most before end : ℕ) (ps : List ℕ) → end ≤ 4294967296 → Rises before ps end
-    → length ps ≤ most → Stands f p (closed ps) → ReadsTo (pointers pointerSize most) f p ps (p + length (closed ps))
+    → length ps ≤ most → Stands f p (closed ps) → ReadsTo (pointers narrow most) f p ps (p + length (closed ps))
 unfolding pointers flatMap wordBytes Rises
 reads-pointers zero before end [] low rise few s =
     then-here _ (then _ (reads-number 0 [] s (omega arith)) (then _ (reads-must _ Refusal.tooMany _ refl) ends))

@@ -8,7 +8,7 @@ use native.Mathlib.Omega.{arith}
 use lib.ListN.{length}
 use Rattle.xcf_numbers.specs.Limit.{fileLimit}
 use Rattle.xcf_walk.specs.Pointers.{tiles}
-use Rattle.xcf_store.specs.Pointer.{pointerSize}
+use Rattle.xcf_store.specs.Pointer.{narrow}
 use Rattle.xcf_window.specs.Window.{pointerAt}
 use Rattle.xcf_store.specs.Word.{words}
 use Rattle.xcf_structure.specs.Structure.{levelBytes}
@@ -41,7 +41,7 @@ module _ {f : List ℕ} {p : ℕ} (d : Drawable) (s : Stands f p (drawableBytes 
     starts-rise : Rises 0 (startsOf d p) (length f)
     starts-rise = tiles-rise d (tilesAt d p) (length f) fine (omega arith) (tiles-stand d s .inside)
 
-    pub pointed : Pointed pointerSize f (readRow d p) (tilesOf d) (tilesAt d p)
+    pub pointed : Pointed narrow f (readRow d p) (tilesOf d) (tilesAt d p)
     unfolding pointerAt readRow
     pointed = record {
       all = tiles-counted d;
@@ -49,6 +49,6 @@ module _ {f : List ℕ} {p : ℕ} (d : Drawable) (s : Stands f p (drawableBytes 
       stands = tiles-stand d s;
     }
 
-    pub walked : Gives (tiles pointerSize (readRow d p .count) 0) f (readRow d p .pointers) tt
+    pub walked : Gives (tiles narrow (readRow d p .count) 0) f (readRow d p .pointers) tt
     unfolding readRow
     walked = rw starts-counted at (reads-tiles 0 (startsOf d p) small starts-rise pointers-stand)

@@ -47,10 +47,10 @@ allowed-low : (list kind n : ℕ) → n ≤ 1 → allowed list kind n ≡ true
 unfolding allowed
 allowed-low list kind n low = simp (le-leb n 1 low, le-leb n fullOpacity (omega arith), cond-same)
 
-module _ (list kind : ℕ) (plain : Plain kind) where
+module _ (size list kind : ℕ) (plain : Plain kind) where
   -- an entry of at most two words, by its content
-  entry : (ns : List ℕ) {c : Content} → length ns ≤ 2 → lengthOk kind (4 * length ns) ≡ true → contentOf (words ns) ≡ c
-      → allowed list kind (c .first) ≡ true → Taken list (worded kind ns)
+  entry : (ns : List ℕ) {c : Content} → length ns ≤ 2 → lengthOk size kind (4 * length ns) ≡ true → contentOf (words ns) ≡ c
+      → allowed list kind (c .first) ≡ true → Taken size list (worded kind ns)
   entry ns short sized e fine = record {
     plain = plain;
     short = omega (arith, words-length ns);
@@ -59,25 +59,25 @@ module _ (list kind : ℕ) (plain : Plain kind) where
   }
 
   -- an entry of no word, and of one that is 0 or 1
-  bare : lengthOk kind 0 ≡ true → Taken list (worded kind [])
+  bare : lengthOk size kind 0 ≡ true → Taken size list (worded kind [])
   bare sized = entry [] (omega arith) sized content-none (allowed-low list kind 0 (omega arith))
 
-  flag : (n : ℕ) → lengthOk kind 4 ≡ true → Taken list (worded kind (n % 2 ∷ []))
+  flag : (n : ℕ) → lengthOk size kind 4 ≡ true → Taken size list (worded kind (n % 2 ∷ []))
   flag n sized =
       entry (n % 2 ∷ []) (omega arith) sized (content-word (n % 2) (omega arith)) (allowed-low list kind (n % 2) (omega arith))
 
 -- entries that are there where a test holds
-when-taken : {list : ℕ} {xs : List Property} (test : Bool) (ys : List Property) → (AllTaken list xs → AllTaken list (ys ++ xs))
-    → AllTaken list xs → AllTaken list (when test ys ++ xs)
+when-taken : {size list : ℕ} {xs : List Property} (test : Bool) (ys : List Property) → (AllTaken size list xs → AllTaken size list (ys ++ xs))
+    → AllTaken size list xs → AllTaken size list (when test ys ++ xs)
 when-taken true ys h ts = h ts
 when-taken false ys h ts = ts
 
-active-taken : (list : ℕ) {xs : List Property} → AllTaken list xs → AllTaken list (worded (activeType list) [] ∷ xs)
+active-taken : (size list : ℕ) {xs : List Property} → AllTaken size list xs → AllTaken size list (worded (activeType list) [] ∷ xs)
 unfolding activeType lengthOk
-active-taken list {xs} ts =
-    by-cases (λ kind. AllTaken list (worded kind [] ∷ xs)) (eqb list 1) 2 3
-    (λ _. goes refl (bare list 2 (omega arith) refl) ts)
-    (λ _. goes refl (bare list 3 (omega arith) refl) ts)
+active-taken size list {xs} ts =
+    by-cases (λ kind. AllTaken size list (worded kind [] ∷ xs)) (eqb list 1) 2 3
+    (λ _. goes refl (bare size list 2 (omega arith) refl) ts)
+    (λ _. goes refl (bare size list 3 (omega arith) refl) ts)
 
 -- an entry that is left out is as one of type 0, which says nothing
 none-active : (list : ℕ) → eqb 0 (activeType list) ≡ false
@@ -140,39 +140,39 @@ pub record Listed (r : Row) : Type 0 where
   pub dx : r .dx < 4294967296
   pub dy : r .dy < 4294967296
 
-module _ (r : Row) (hasMask : Bool) (l : Listed r) where
+module _ (size : ℕ) (r : Row) (hasMask : Bool) (l : Listed r) where
   opacity-small : r .opacity < 4294967296
   opacity-small = omega (arith, l .opaque)
 
-  opacity-taken : Taken (r .kind) (worded PropertyType.opacity (r .opacity ∷ []))
+  opacity-taken : Taken size (r .kind) (worded PropertyType.opacity (r .opacity ∷ []))
   unfolding lengthOk allowed
   opacity-taken =
-      entry (r .kind) PropertyType.opacity (omega arith) (r .opacity ∷ []) (omega arith) refl (content-word (r .opacity) opacity-small)
+      entry size (r .kind) PropertyType.opacity (omega arith) (r .opacity ∷ []) (omega arith) refl (content-word (r .opacity) opacity-small)
       (rw (le-leb _ _ (l .opaque), cond-same))
 
-  mode-taken : Taken (r .kind) (worded PropertyType.mode (r .mode ∷ []))
+  mode-taken : Taken size (r .kind) (worded PropertyType.mode (r .mode ∷ []))
   unfolding lengthOk allowed
   mode-taken =
-      entry (r .kind) PropertyType.mode (omega arith) (r .mode ∷ []) (omega arith) refl (content-word (r .mode) (l .mode))
+      entry size (r .kind) PropertyType.mode (omega arith) (r .mode ∷ []) (omega arith) refl (content-word (r .mode) (l .mode))
       (simp (and-false, cond-same))
 
-  offsets-taken : Taken (r .kind) (worded PropertyType.offsets (r .dx ∷ r .dy ∷ []))
+  offsets-taken : Taken size (r .kind) (worded PropertyType.offsets (r .dx ∷ r .dy ∷ []))
   unfolding lengthOk allowed
   offsets-taken =
-      entry (r .kind) PropertyType.offsets (omega arith) (r .dx ∷ r .dy ∷ []) (omega arith) refl (content-words (r .dx) (r .dy) (l .dx) (l .dy))
+      entry size (r .kind) PropertyType.offsets (omega arith) (r .dx ∷ r .dy ∷ []) (omega arith) refl (content-words (r .dx) (r .dy) (l .dx) (l .dy))
       (simp (and-false, cond-same))
 
-  drawable-taken : AllTaken (r .kind) (drawableProperties r hasMask)
+  drawable-taken : AllTaken size (r .kind) (drawableProperties r hasMask)
   unfolding drawableProperties lengthOk
   drawable-taken =
-      when-taken (flagSet (r .flags) Flag.selection) (worded PropertyType.selection [] ∷ []) (goes refl (bare (r .kind) PropertyType.selection (omega arith) refl))
-      (when-taken (flagSet (r .flags) Flag.active) (worded (activeType (r .kind)) [] ∷ []) (active-taken (r .kind))
+      when-taken (flagSet (r .flags) Flag.selection) (worded PropertyType.selection [] ∷ []) (goes refl (bare size (r .kind) PropertyType.selection (omega arith) refl))
+      (when-taken (flagSet (r .flags) Flag.active) (worded (activeType (r .kind)) [] ∷ []) (active-taken size (r .kind))
       (goes refl opacity-taken
-      (goes refl (flag (r .kind) PropertyType.visible (omega arith) (r .flags / Flag.visible) refl)
-      (when-taken hasMask (worded PropertyType.apply (apply r ∷ []) ∷ []) (goes refl (flag (r .kind) PropertyType.apply (omega arith) (r .flags / Flag.apply) refl))
+      (goes refl (flag size (r .kind) PropertyType.visible (omega arith) (r .flags / Flag.visible) refl)
+      (when-taken hasMask (worded PropertyType.apply (apply r ∷ []) ∷ []) (goes refl (flag size (r .kind) PropertyType.apply (omega arith) (r .flags / Flag.apply) refl))
       (when-taken (isLayer r) (worded PropertyType.mode (r .mode ∷ []) ∷ worded PropertyType.offsets (r .dx ∷ r .dy ∷ []) ∷ [])
       (λ ts. goes refl mode-taken (goes refl offsets-taken ts))
-      (closes refl (bare (r .kind) PropertyType.end (omega arith) refl)))))))
+      (closes refl (bare size (r .kind) PropertyType.end (omega arith) refl)))))))
 
   drawable-says : (layer : Bool) → isLayer r ≡ layer
       → putAll (r .kind) (drawableProperties r hasMask) (defaults (r .kind) 0) ≡ propertiesOf r hasMask
@@ -188,18 +188,18 @@ module _ (r : Row) (hasMask : Bool) (l : Listed r) where
   drawable-says false e = simp (e, content-word (r .opacity) opacity-small, put-entries)
 
   pub reads-properties : {f : List ℕ} {p : ℕ} → Stands f p (listBytes (drawableProperties r hasMask))
-      → ReadsTo (properties (r .kind) 0) f p (propertiesOf r hasMask) (p + length (listBytes (drawableProperties r hasMask)))
+      → ReadsTo (properties size (r .kind) 0) f p (propertiesOf r hasMask) (p + length (listBytes (drawableProperties r hasMask)))
   reads-properties s = rw (drawable-says (isLayer r) refl) at (reads-list drawable-taken s)
 
-image-taken : AllTaken imageList imageProperties
+image-taken : (size : ℕ) → AllTaken size imageList imageProperties
 unfolding imageProperties contentOf lengthOk allowed
-image-taken =
+image-taken size =
     goes {x = record { kind = 17; payload = 1 ∷ [] }} refl
     (record { plain = omega arith; short = omega arith; sized = refl; fine = refl })
-    (closes refl (bare imageList 0 (omega arith) refl))
+    (closes refl (bare size imageList 0 (omega arith) refl))
 
-pub reads-image-properties : {f : List ℕ} {p : ℕ} → Stands f p (listBytes imageProperties)
-    → ReadsTo (properties imageList 0) f p (record {
+pub reads-image-properties : (size : ℕ) {f : List ℕ} {p : ℕ} → Stands f p (listBytes imageProperties)
+    → ReadsTo (properties size imageList 0) f p (record {
       compression = 1;
       unmapped = 0;
       opacity = fullOpacity;
@@ -213,4 +213,4 @@ pub reads-image-properties : {f : List ℕ} {p : ℕ} → Stands f p (listBytes 
       group = 0;
     }) (p + 17)
 unfolding imageProperties putAll put contentOf flatMap propertyBytes wordBytes activeType
-reads-image-properties s = reads-list image-taken s
+reads-image-properties size s = reads-list (image-taken size) s

@@ -37,27 +37,27 @@ putAll list (x ∷ xs) s = putAll list xs (putEntry list x s)
 abbrev pub Plain : ℕ → Type 0
 Plain kind = (kind < 4294967296) × (kind ≡ 1 → ⊥) × (kind ≡ 5 → ⊥)
 
--- an entry that a turn takes, whatever came before it
-pub record Taken (list : ℕ) (x : Property) : Type 0 where
+-- an entry that a turn takes, whatever came before it, where pointers have `size` bytes
+pub record Taken (size list : ℕ) (x : Property) : Type 0 where
   pub plain : Plain (x .kind)
   pub short : length (x .payload) < 4294967296
-  pub sized : lengthOk (x .kind) (length (x .payload)) ≡ true
+  pub sized : lengthOk size (x .kind) (length (x .payload)) ≡ true
   pub fine : allowed list (x .kind) (contentOf (x .payload) .first) ≡ true
 
 -- a list of them, the last and no other of type 0
-pub data AllTaken (list : ℕ) : List Property → Type 0 where
-  closes : {x : Property} → eqb (x .kind) PropertyType.end ≡ true → Taken list x → AllTaken list (x ∷ [])
-  goes : {x : Property} {xs : List Property} → eqb (x .kind) PropertyType.end ≡ false → Taken list x → AllTaken list xs → AllTaken list (x ∷ xs)
+pub data AllTaken (size list : ℕ) : List Property → Type 0 where
+  closes : {x : Property} → eqb (x .kind) PropertyType.end ≡ true → Taken size list x → AllTaken size list (x ∷ [])
+  goes : {x : Property} {xs : List Property} → eqb (x .kind) PropertyType.end ≡ false → Taken size list x → AllTaken size list xs → AllTaken size list (x ∷ xs)
 
-module _ {f : List ℕ} {list : ℕ} {x : Property} (t : Taken list x) where
+module _ {f : List ℕ} {size list : ℕ} {x : Property} (t : Taken size list x) where
   reads-content : (p at : ℕ) → Stands f p (x .payload)
-      → ReadsTo (content list (x .kind) at (length (x .payload))) f p (contentOf (x .payload)) (p + length (x .payload))
+      → ReadsTo (content size list (x .kind) at (length (x .payload))) f p (contentOf (x .payload)) (p + length (x .payload))
   unfolding content isColourMap payload
   reads-content p at s =
       rw (ne-eqb _ _ (t .plain .1), and-false) (then _ (reads-must _ Refusal.badLength at (t .sized)) (then _ (reads-bytes (x .payload) s) ends))
 
   reads-property : (p : ℕ) → Stands f p (propertyBytes x)
-      → ReadsTo (property list) f p
+      → ReadsTo (property size list) f p
       (record { kind = x .kind; start = p; place = p + 4 + 4; length = length (x .payload); content = contentOf (x .payload) })
       (p + length (propertyBytes x))
   unfolding word property propertyBytes wordBytes
@@ -70,7 +70,7 @@ module _ {f : List ℕ} {list : ℕ} {x : Property} (t : Taken list x) where
       (then-here _ (then _ (reads-content (p + 4 + 4) _ (stands-behind (wordBytes _) _ behind)) ends))))))
 
   reads-turn : (p : ℕ) (q : Properties) → q .unmapped ≡ 0 → Stands f p (propertyBytes x)
-      → ReadsTo (propertyTurn list q) f p
+      → ReadsTo (propertyTurn size list q) f p
       (cond (eqb (x .kind) PropertyType.end) (last (putEntry list x q)) (more (putEntry list x q))) (p + length (propertyBytes x))
   unfolding propertyTurn isFloating lacksMap
   reads-turn p q mapped s =
@@ -87,9 +87,9 @@ unfolding put
 put-mapped list x q mapped = rw mapped (cond-same (eqb (x .kind) PropertyType.colourMap) 0)
 
 -- the turns of a list, more of them than bytes are left
-turns-read : {f : List ℕ} {p list : ℕ} {xs : List Property} (q : Properties) (n : ℕ) → AllTaken list xs → q .unmapped ≡ 0
+turns-read : {f : List ℕ} {p size list : ℕ} {xs : List Property} (q : Properties) (n : ℕ) → AllTaken size list xs → q .unmapped ≡ 0
     → length f ≤ p + n → Stands f p (listBytes xs)
-    → ReadsTo (turns (suc n) (propertyTurn list) q) f p (putAll list xs q) (p + length (listBytes xs))
+    → ReadsTo (turns (suc n) (propertyTurn size list) q) f p (putAll list xs q) (p + length (listBytes xs))
 unfolding turns putAll flatMap
 turns-read q n (closes {x} e t) mapped enough s =
     rw append-nil (then _ (reads-turn t _ q mapped (stands-front (propertyBytes x) [] s)) (rw e ends))
@@ -102,7 +102,7 @@ turns-read q (suc n) (goes {x} {xs} e t ts) mapped enough s =
     (turns-read (putEntry _ x q) n ts (put-mapped _ x q mapped) (omega (arith, property-long x))
     (stands-behind (propertyBytes x) (listBytes xs) s))))
 
-pub reads-list : {f : List ℕ} {p list : ℕ} {xs : List Property} → AllTaken list xs → Stands f p (listBytes xs)
-    → ReadsTo (properties list 0) f p (putAll list xs (defaults list 0)) (p + length (listBytes xs))
+pub reads-list : {f : List ℕ} {p size list : ℕ} {xs : List Property} → AllTaken size list xs → Stands f p (listBytes xs)
+    → ReadsTo (properties size list 0) f p (putAll list xs (defaults list 0)) (p + length (listBytes xs))
 unfolding properties loop
 reads-list {f} ts s = then-length _ (turns-read _ (length f) ts refl (omega arith) s)

@@ -12,7 +12,7 @@ use lib.ListN.{length, getD, replicate}
 use lib.Seq.{take-append-seam}
 use Rattle.xcf_numbers.specs.Limit.{fileLimit, tableRows, tableSize}
 use Rattle.xcf_numbers.specs.Kind
-use Rattle.xcf_store.specs.Pointer.{pointerSize}
+use Rattle.xcf_store.specs.Pointer.{narrow}
 use Rattle.xcf_store.specs.Word.{part}
 use Rattle.xcf_walk.specs.Walk.{got}
 use Rattle.xcf_table.specs.declared.Row.{Row}
@@ -27,6 +27,7 @@ use Rattle.xcf_usable.proofs.AllUsable.{all-usable}
 use Rattle.xcf_usable.proofs.RowFacts.{Use, unused, layer, mask, channel, row-use, kind-listed}
 use Rattle.xcf_usable.proofs.Order.{after-unused}
 use Rattle.xcf_image.specs.Image.{versionOf}
+use Rattle.xcf_image.proofs.ImageLength.{version-old-or-new}
 use Rattle.xcf_drawable.specs.Drawable.{Drawable, drawableBytes}
 use Rattle.xcf_write.specs.File.{rowsOf, imageSize}
 use Rattle.xcf_body.specs.Rows.{usedRows}
@@ -38,7 +39,7 @@ use Rattle.xcf_write.proofs.FileLaws.{rows-length, rows-are}
 use Rattle.xcf_round_trip.specs.RoundTrip.{withPlaces, SameName, ReadsBack, RoundTrip}
 use Rattle.xcf_round_trip.proofs.Parts.{Stands, sidesSize, readRow, addAll}
 use Rattle.xcf_round_trip.proofs.DrawablesFrom.{drawableOf, usedDrawables, drawable-at, drawable-readable, used-end}
-use Rattle.xcf_round_trip.proofs.ImageRead.{headOf, image-read, rowPlace, row-place-some, stands-drawable}
+use Rattle.xcf_round_trip.proofs.ImageRead.{headOf, size-known, image-read, rowPlace, row-place-some, stands-drawable}
 use Rattle.xcf_round_trip.proofs.DrawableRead.{name-at}
 use Rattle.xcf_round_trip.proofs.DrawableDecoded.{drawable-decoded}
 use Rattle.xcf_round_trip.proofs.TableRead.{rows-count, table-length, table-row, table-unused, zero-row}
@@ -131,7 +132,7 @@ module _ (c : Canvas) (table names pixels lent : List ℕ) (low : (i : ℕ) → 
 
   row-decoded : (k : ℕ) → k < usedRows table → (buffer marks : List ℕ)
       → fits (rowAt table k) (length buffer) (length marks) ≡ true
-      → decoding pointerSize file (reading file lent .table) k 1 buffer marks
+      → decoding narrow file (reading file lent .table) k 1 buffer marks
       ≡ record {
         answer = record { number = 0; place = 0; marked = 0 };
         pixels = drawable k .pixels;
@@ -145,7 +146,7 @@ module _ (c : Canvas) (table names pixels lent : List ℕ) (low : (i : ℕ) → 
 
   reads-back : ReadsBack c table names pixels file lent
   reads-back = record {
-    answer = ap (λ x. x .answer) read ∙ rw (rows-count, count, zero-add, rows-are table names (usedRows table) 0 pixels);
+    answer = ap (λ x. x .answer) read ∙ rw (size-known _ (version-old-or-new (rowsOf ds)), rows-count, count, zero-add, rows-are table names (usedRows table) 0 pixels);
     rows = λ k h. row-placed (drawable k) _ (row-read k h);
     unused = unused-back;
     named = name-back;

@@ -9,7 +9,7 @@ use borrow.Author.Tests.{eq-eqb, ne-eqb}
 use lib.ListN.{length, getD}
 use Rattle.xcf_numbers.specs.Limit.{fileLimit}
 use Rattle.xcf_numbers.specs.Kind
-use Rattle.xcf_store.specs.Pointer.{pointerSize}
+use Rattle.xcf_store.specs.Pointer.{narrow}
 use Rattle.xcf_walk.specs.Walk.{Walk}
 use Rattle.xcf_table.specs.Table.{Rows, addRow}
 use Rattle.xcf_table.specs.declared.canvas.Canvas.{Canvas}
@@ -83,13 +83,13 @@ drawable-stands (d ∷ ds) p other (suc k) s h = drawable-stands ds _ other k (s
 -- what the two walks give, from some rows to all
 pub record RowsRead (f : List ℕ) (c : Canvas) (layers channels : List ℕ) (rows all : Rows) : Type 0 where
   pub middle : Rows
-  pub first : GivesRows f (layerRows pointerSize c) layers rows middle
-  pub last : GivesRows f (canvasChannelRows pointerSize c) channels middle all
+  pub first : GivesRows f (layerRows narrow c) layers rows middle
+  pub last : GivesRows f (canvasChannelRows narrow c) channels middle all
 
 module _ {f : List ℕ} (small : length f ≤ fileLimit) (c : Canvas) where
   reads-channels : {ds : List Drawable} (p : ℕ) (rows : Rows) → Channels c (rows .count) ds → AllReadable ds → 0 < p
       → Stands f p (drawablesBytes ds p)
-      → (placesOf Kind.layer ds p ≡ []) × GivesRows f (canvasChannelRows pointerSize c) (placesOf Kind.channel ds p) rows (addAll rows ds p)
+      → (placesOf Kind.layer ds p ≡ []) × GivesRows f (canvasChannelRows narrow c) (placesOf Kind.channel ds p) rows (addAll rows ds p)
   unfolding addRow addAll kindPlaces
   reads-channels p rows none ws some s = (refl, gives-none)
   reads-channels p rows (channel {d = d} {ds} facts numbers xs) ws some s =

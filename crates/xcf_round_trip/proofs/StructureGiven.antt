@@ -35,7 +35,7 @@ module _ {f : List ℕ} {S : ℕ → Type 0} where
       → Ensures f S (λ x. x .properties .opacity ≤ fullOpacity) (fields size list)
   unfolding fields
   fields-opaque size list drawn =
-      ensures-next string _ λ name. ensures-next here _ λ place. ensures-bind _ (ensures-opacity list drawn 0) λ p h.
+      ensures-next string _ λ name. ensures-next here _ λ place. ensures-bind _ (ensures-opacity list drawn size 0) λ p h.
       ensures-next (pointer size) _ λ to. ensures-done h
 
   type-given : (base : ℕ) → Ensures f S (λ t. typeOk base t ≡ true) (layerType base)

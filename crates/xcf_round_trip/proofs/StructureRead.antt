@@ -97,7 +97,7 @@ module _ (d : Drawable) (w : Writable d) (l : Listed (d .row)) (h : ℕ) (some :
       let size : length (d .name) < 4294967295 = omega (arith, w .named, w .short) in
       rw (← kind)
       (then _ (reads-name (d .name) size (stands-front (nameBytes (d .name)) _ s))
-      (then-here _ (then _ (reads-properties (d .row) (d .hasMask) l (stands-front (listOf d) _ behind))
+      (then-here _ (then _ (reads-properties _ (d .row) (d .hasMask) l (stands-front (listOf d) _ behind))
       (then _ (reads-pointer h ms low (stands-behind (listOf d) _ behind) some) ends))))
 
   -- a structure that stands at p

@@ -12,7 +12,7 @@ use Rattle.xcf_table.specs.declared.Row.{Row}
 use Rattle.xcf_grid.specs.Grid.{tileWidth, tileHeight}
 use Rattle.xcf_tile.specs.Tile.{tileOf}
 use Rattle.xcf_encode_laws.proofs.TileReadBack.{tile-read-back}
-use Rattle.xcf_store.specs.Pointer.{pointerSize}
+use Rattle.xcf_store.specs.Pointer.{narrow}
 use Rattle.xcf_window.specs.Window.{tile}
 use Rattle.xcf_grid.specs.Pixels.{tabulate, shown, pixelsOf}
 use Rattle.xcf_decode.specs.Answer.{marksOf, nonzero, rowDecoding}
@@ -49,10 +49,10 @@ unfolding nonzero
 nonzero-zero zero = refl
 nonzero-zero (suc n) = nonzero-zero n
 
-module _ {f : List ℕ} (d : Drawable) (p : ℕ) {q : ℕ} (fine : Writable d) (s : Pointed pointerSize f (readRow d p) (tilesOf d) q) where
+module _ {f : List ℕ} (d : Drawable) (p : ℕ) {q : ℕ} (fine : Writable d) (s : Pointed narrow f (readRow d p) (tilesOf d) q) where
   tile-decoded : (t : ℕ) → t < d .row .count
-      → (tile pointerSize f (readRow d p) 1 t .mark ≡ 0)
-      × (tile pointerSize f (readRow d p) 1 t .pixels ≡ shown (d .row .width) (d .row .height) (d .row .depth) t (d .pixels))
+      → (tile narrow f (readRow d p) 1 t .mark ≡ 0)
+      × (tile narrow f (readRow d p) 1 t .pixels ≡ shown (d .row .width) (d .row .height) (d .row .depth) t (d .pixels))
   unfolding tile readRow encodingOf
   tile-decoded t below =
       let w = tileWidth (d .row .width) t in
@@ -65,17 +65,17 @@ module _ {f : List ℕ} (d : Drawable) (p : ℕ) {q : ℕ} (fine : Writable d) (
       begins .1 ∙ ap (λ (l : List ℕ). tileOf (l ++ begins .0) w h (d .row .depth) 1) (tile-entry d t below) ∙ back in
       (ap (λ x. x .mark) same, ap (λ x. x .pixels) same)
 
-  marks-zero : marksOf pointerSize f (readRow d p) 1 ≡ replicate (d .row .count) 0
+  marks-zero : marksOf narrow f (readRow d p) 1 ≡ replicate (d .row .count) 0
   unfolding marksOf readRow
   marks-zero = tabulate-zero (d .row .count) _ (λ t below. tile-decoded t below .0)
 
-  pixels-same : pixelsOf (λ t. tile pointerSize f (readRow d p) 1 t .pixels) (d .row .width) (d .row .height) (d .row .depth)
+  pixels-same : pixelsOf (λ t. tile narrow f (readRow d p) 1 t .pixels) (d .row .width) (d .row .height) (d .row .depth)
       ≡ d .pixels
   pixels-same =
-      pixels-of-tiles (fine .drawn) (λ t. tile pointerSize f (readRow d p) 1 t .pixels)
+      pixels-of-tiles (fine .drawn) (λ t. tile narrow f (readRow d p) 1 t .pixels)
       (λ t below. tile-decoded t (rw (fine .drawn .range .count) below) .1)
 
-  pub row-decoding : rowDecoding pointerSize f (readRow d p) 1
+  pub row-decoding : rowDecoding narrow f (readRow d p) 1
       ≡ record { answer = record { number = 0; place = 0; marked = 0 }; pixels = d .pixels; marks = replicate (d .row .count) 0 }
   unfolding rowDecoding readRow
   row-decoding = rw (marks-zero, nonzero-zero (d .row .count), pixels-same)

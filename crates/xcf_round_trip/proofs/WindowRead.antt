@@ -16,7 +16,7 @@ use Rattle.xcf_store.specs.Word.{part, bigEndian, words}
 use Rattle.xcf_table.specs.declared.Row.{Row}
 use Rattle.xcf_tile.specs.Tile.{tileOf}
 use Rattle.xcf_laws.proofs.Cases.{by-cases}
-use Rattle.xcf_store.specs.Pointer.{pointerSize, numberAt}
+use Rattle.xcf_store.specs.Pointer.{narrow, numberAt}
 use Rattle.xcf_window.specs.Window.{pointerAt, windowEnd, windowLength, window}
 use Rattle.xcf_window.proofs.Cuts.{cut-same}
 use Rattle.xcf_drawable.specs.Drawable.{starts}
@@ -27,15 +27,15 @@ use Rattle.xcf_round_trip.proofs.WordsRead.{word-value, words-first, wo
 
 pub pointer-read : {f : List ℕ} {p : ℕ} (before : ℕ) (ps : List ℕ) → length f ≤ fileLimit → Rises before ps (length f)
     → Stands f p (words (ps ++ (0 ∷ []))) → (t : ℕ) → t < length ps
-    → numberAt pointerSize f (p + pointerSize * t) ≡ getD ps t 0
+    → numberAt narrow f (p + narrow * t) ≡ getD ps t 0
 unfolding Rises
 pointer-read before [] small rises s t below = absurd (omega arith)
 pointer-read {f} {p} before (n ∷ ps) small rises s zero below =
-    let first : p + pointerSize * 0 ≡ p = omega arith in
+    let first : p + narrow * 0 ≡ p = omega arith in
     let same = words-first n (ps ++ (0 ∷ [])) s .same in
     rw (first, rw word-length at same) (word-value n (omega (arith, rises .1 .0)))
 pointer-read {f} {p} before (n ∷ ps) small rises s (suc t) below =
-    let next : p + pointerSize * suc t ≡ p + pointerSize + pointerSize * t = omega arith in
+    let next : p + narrow * suc t ≡ p + narrow + narrow * t = omega arith in
     rw next (pointer-read n ps small (rises .1 .1) (words-rest n (ps ++ (0 ∷ [])) s) t (omega arith))
 
 -- lists one behind the other: the next start, and that each list stands at its own

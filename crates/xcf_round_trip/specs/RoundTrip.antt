@@ -6,7 +6,7 @@ use mathlib.Core.List.{List}
 use mathlib.Core.Bool.{true}
 use lib.ListN.{length, getD, take, replicate}
 use Rattle.xcf_numbers.specs.Limit.{tableRows, tableSize, wordLimit}
-use Rattle.xcf_store.specs.Pointer.{pointerSize}
+use Rattle.xcf_store.specs.Pointer.{narrow}
 use Rattle.xcf_store.specs.Word.{part}
 use Rattle.xcf_table.specs.declared.Row.{Row}
 use Rattle.xcf_table.specs.Name.{nameOf}
@@ -60,6 +60,7 @@ pub record ReadsBack (c : Canvas) (table names pixels f lent : List ℕ) : Type 
         version = versionOf (rowsFrom table (usedRows table) 0);
         compression = 1;
         rows = usedRows table;
+        size = narrow;
       }
   pub rows : (k : ℕ) → k < usedRows table →
       let s = rowAt (reading f lent .table) k in s ≡ withPlaces (rowAt table k) (s .name) (s .list) (s .pointers)
@@ -68,7 +69,7 @@ pub record ReadsBack (c : Canvas) (table names pixels f lent : List ℕ) : Type 
   pub named : (k : ℕ) → k < usedRows table → SameName names f (rowAt table k) (rowAt (reading f lent .table) k)
   pub decoded : (k : ℕ) → k < usedRows table → (buffer marks : List ℕ)
       → fits (rowAt table k) (length buffer) (length marks) ≡ true
-      → decoding pointerSize f (reading f lent .table) k 1 buffer marks
+      → decoding narrow f (reading f lent .table) k 1 buffer marks
       ≡ record {
         answer = record { number = 0; place = 0; marked = 0 };
         pixels = part pixels (pixelsSize table k 0) (pixelSize (rowAt table k));

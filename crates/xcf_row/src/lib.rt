@@ -29,7 +29,7 @@ fn name_flag(name: Name) -> u32
     if name.utf8 { 0 } else { flag::NOT_UTF8 }
 }
 
-fn layer_flags(p: Properties, mask: u32, name: Name) -> u32
+fn layer_flags(p: Properties, mask: usize, name: Name) -> u32
     ensures { λ r. ⌜ r ≡ layerFlags p mask name ⌝ }
 {
     let apply = if mask == 0 { 0 } else { p.apply };

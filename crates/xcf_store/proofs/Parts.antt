@@ -1,12 +1,12 @@
--- The bytes of a part, and the word that four of them spell.
+-- The bytes of a part, the word that four of them spell, and the number that eight do.
 -- Assumes nothing.
 use Prim.Native.Nat.{ℕ, suc, _+_, _-_, _*_, _≤_, _<_, min}
-use mathlib.Core.Path.{_≡_}
-use mathlib.Core.List.{List, _∷_}
+use mathlib.Core.Path.{_≡_, refl}
+use mathlib.Core.List.{List, [], _∷_, _++_}
 use native.Mathlib.Nat.{add-assoc}
 use native.Mathlib.Omega.{arith}
 use lib.ListN.{length, drop, getD, length-take, length-drop, List·getD-eq-default}
-use lib.Seq.{getD-take, getD-drop, drop-cons, ext-getD}
+use lib.Seq.{getD-take, getD-drop, drop-cons, drop-drop, take-add, ext-getD}
 use Rattle.xcf_store.specs.Word.{part, bigEndian}
 
 pub part-at : (f : List ℕ) (at n i : ℕ) → i < n → getD (part f at n) i 0 ≡ getD f (at + i) 0
@@ -30,10 +30,11 @@ part-part f at n i m h =
 pub part-cons : (f : List ℕ) (at n : ℕ) → at < length f → part f at (suc n) ≡ getD f at 0 ∷ part f (at + 1) n
 part-cons f at n h = rw (drop-cons f at 0 h, ← (let e : suc at ≡ at + 1 = omega arith in e))
 
-pub big-endian-part : (f : List ℕ) (at : ℕ) → at + 4 ≤ length f
-    → bigEndian 0 (part f at 4) ≡ getD f at 0 * 16777216 + getD f (at + 1) 0 * 65536 + getD f (at + 2) 0 * 256 + getD f (at + 3) 0
+-- a word behind a number n
+pub big-endian-part : (n : ℕ) (f : List ℕ) (at : ℕ) → at + 4 ≤ length f
+    → bigEndian n (part f at 4) ≡ n * 4294967296 + getD f at 0 * 16777216 + getD f (at + 1) 0 * 65536 + getD f (at + 2) 0 * 256 + getD f (at + 3) 0
 unfolding bigEndian
-big-endian-part f at h =
+big-endian-part n f at h =
     rw (
       part-cons f at 3 (omega arith),
       part-cons f (at + 1) 2 (omega arith),
@@ -42,3 +43,18 @@ big-endian-part f at h =
       (let e : at + 1 + 1 ≡ at + 2 = omega arith in e),
       (let e : at + 2 + 1 ≡ at + 3 = omega arith in e),
     ) (omega arith)
+
+-- bytes in two goes
+big-endian-append : (n : ℕ) (xs ys : List ℕ) → bigEndian n (xs ++ ys) ≡ bigEndian (bigEndian n xs) ys
+unfolding bigEndian
+big-endian-append n [] ys = refl
+big-endian-append n (x ∷ xs) ys = big-endian-append (n * 256 + x) xs ys
+
+-- eight bytes are two words
+pub two-words : (f : List ℕ) (at : ℕ) → at + 8 ≤ length f
+    → bigEndian 0 (part f at 8) ≡ bigEndian 0 (part f at 4) * 4294967296 + bigEndian 0 (part f (at + 4) 4)
+two-words f at h =
+    let high = bigEndian 0 (part f at 4) in
+    let low = big-endian-part 0 f (at + 4) (omega arith) in
+    let split : part f at 8 ≡ part f at 4 ++ part f (at + 4) 4 = rw (take-add 4 4 (drop at f), drop-drop) in
+    rw (split, big-endian-append) (omega (arith, low, big-endian-part high f (at + 4) (omega arith)))

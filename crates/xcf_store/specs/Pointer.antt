@@ -1,21 +1,24 @@
--- A pointer: a number of so many bytes, the high byte first.
+-- A pointer: a number of four or eight bytes, the high byte first.
 use mathlib.Core.Path.{_≡_}
 use Prim.Native.Nat.{ℕ}
 use mathlib.Core.List.{List}
-use mathlib.Core.Bool.{Bool}
+use mathlib.Core.Bool.{Bool, _||_}
+use mathlib.Core.Logic.{_⊎_}
 use lib.Dec.{eqb}
 use Rattle.xcf_store.specs.Word.{part, bigEndian}
 
--- the number of a pointer's bytes in versions 0 to 3
-abbrev pub pointerSize : ℕ
-pointerSize = 4
+-- the sizes that a pointer may have
+abbrev pub narrow : ℕ
+narrow = 4
 
--- a pointer may have so many bytes
-abbrev pub pointerSizeOk : ℕ → Bool
-pointerSizeOk size = eqb size pointerSize
+abbrev pub wide : ℕ
+wide = 8
+
+unfoldable pub pointerSizeOk : ℕ → Bool
+pointerSizeOk size = eqb size narrow || eqb size wide
 
 abbrev pub PointerSize : ℕ → Type 0
-PointerSize size = size ≡ pointerSize
+PointerSize size = (size ≡ narrow) ⊎ (size ≡ wide)
 
 -- the number at a place
 abbrev pub numberAt : ℕ → List ℕ → ℕ → ℕ

@@ -9,7 +9,7 @@ use crate::pointer::number_at;
 // How many pointers rise, and the last of them.
 pub struct Rising {
     pub count: u32,
-    pub last: u32,
+    pub last: usize,
 }
 
 // How many pointers from a place on lie in the file, at most n.
@@ -35,14 +35,14 @@ pub fn rising_pointers(file: &[u8], at: usize, n: u32, size: usize) -> Rising
 {
     let end = file.len();
     let most = pointers_in(file, at, n, size);
-    let mut last: u32 = 0;
+    let mut last: usize = 0;
     let mut count: u32 = 0;
     while count < most {
         let next = number_at(file, at + size * (count as usize), size);
         if next <= last {
             return Rising { count, last };
         }
-        if end <= (next as usize) {
+        if end <= next {
             return Rising { count, last };
         }
         last = next;

@@ -15,7 +15,7 @@ use Rattle.xcf_operation.specs.Operation.{headOf, headAt, operationOf, operatio
 use Rattle.xcf_stream.specs.Stream.{streamFrom, streamWithin, streamAt}
 use Rattle.xcf_stream.specs.Streams.{streamsAt}
 use Rattle.xcf_tile.specs.Tile.{pixel, interleave, encodedTile, tileIn, tileOf}
-use Rattle.xcf_store.specs.Pointer.{pointerSize}
+use Rattle.xcf_store.specs.Pointer.{narrow}
 use Rattle.xcf_read.specs.Image.{image, structureByte}
 use Rattle.xcf_read.specs.Answer.{Reading, readingOf, reading, rowOf}
 use Rattle.xcf_window.specs.Window.{pointerAt, windowEnd, windowLength, window, InWindow, tile}
@@ -41,15 +41,15 @@ wide-read lent size = read-walked wideFile lent size (omega arith) (walks .wide)
 differs-at : (i : ℕ) → (getD wideFile i 0 ≡ getD damagedFile i 0 → ⊥) → i ≡ 145
 differs-at = differ-at wideFile 145 63 128
 
-no-structure : structureByte pointerSize wideFile 145 → ⊥
+no-structure : structureByte wideFile 145 → ⊥
 unfolding structureByte
-no-structure = not-passed (image pointerSize) wideFile 0 145 (walks .wideFree)
+no-structure = not-passed image wideFile 0 145 (walks .wideFree)
 
-in-window : InChosen pointerSize wideFile given FirstTile 145
+in-window : InChosen wideFile given FirstTile 145
 unfolding tableOf bigEndian rowAt InWindow pointerAt windowEnd windowLength
 in-window = record { k = 0; t = 0; is = record { row = omega arith; tile = omega arith }; chosen = (refl, refl); inside = (omega arith, omega arith) }
 
-not-in-window : InWindow pointerSize wideFile (rowOf given 0) 1 145 → ⊥
+not-in-window : InWindow narrow wideFile (rowOf given 0) 1 145 → ⊥
 unfolding tableOf bigEndian rowAt InWindow pointerAt windowEnd windowLength
 not-in-window w = omega (arith, w .0)
 
@@ -64,7 +64,7 @@ other-tile k t is free =
     second : (t : ℕ) → t < 2 → (t ≡ 0 → ⊥) → t ≡ 1
     second t below first = omega (arith, below, first)
 
-damage : Damaged pointerSize wideFile damagedFile given FirstTile
+damage : Damaged wideFile damagedFile given FirstTile
 damage = record {
   long = refl;
   inside = λ i differs. rw (differs-at i differs) in-window;
@@ -72,12 +72,12 @@ damage = record {
   others = λ i differs k t is free w. let e = other-tile k t is free in not-in-window (rw (e .0, e .1, differs-at i differs) at w);
 }
 
-good-shown : rowDecoding pointerSize wideFile (rowOf given 0) 1
+good-shown : rowDecoding narrow wideFile (rowOf given 0) 1
     ≡ record { answer = record { number = 0; place = 0; marked = 0 }; pixels = replicate 64 255 ++ (7 ∷ []); marks = 0 ∷ 0 ∷ [] }
 unfolding tableOf marksOf nonzero rowDecoding pointerAt windowEnd windowLength window tile tabulate pixelsOf rowAt bigEndian headOf headAt operationOf operationAt streamFrom streamWithin streamAt streamsAt pixel interleave encodedTile tileIn tileOf
 good-shown = refl
 
-marked-shown : rowDecoding pointerSize damagedFile (rowOf given 0) 1
+marked-shown : rowDecoding narrow damagedFile (rowOf given 0) 1
     ≡ record { answer = record { number = 0; place = 0; marked = 1 }; pixels = replicate 64 0 ++ (7 ∷ []); marks = Mark.short ∷ 0 ∷ [] }
 unfolding tableOf marksOf nonzero rowDecoding pointerAt windowEnd windowLength window tile tabulate pixelsOf rowAt bigEndian headOf headAt operationOf operationAt streamFrom streamWithin streamAt streamsAt pixel interleave encodedTile tileIn tileOf
 marked-shown = refl
@@ -89,7 +89,7 @@ fitting pixels marks p m = rw (p, m)
 pub example-damaged : (lent pixels marks : List ℕ) → length lent ≡ tableSize → length pixels ≡ 65 → length marks ≡ 2 → DamagedExample lent pixels marks
 example-damaged lent pixels marks size p m =
     let e = wide-read lent size in
-    let d : Damaged pointerSize wideFile damagedFile (reading wideFile lent) FirstTile = rw e damage in
+    let d : Damaged wideFile damagedFile (reading wideFile lent) FirstTile = rw e damage in
     let accepted : reading wideFile lent .answer .number ≡ 0 = rw e in
     let s = read-same d lent in
     let fit = fitting pixels marks p m in

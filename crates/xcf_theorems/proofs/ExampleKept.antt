@@ -17,7 +17,7 @@ use Rattle.xcf_operation.specs.Operation.{headOf, headAt, operationOf, operatio
 use Rattle.xcf_stream.specs.Stream.{streamFrom, streamWithin, streamAt}
 use Rattle.xcf_stream.specs.Streams.{streamsAt}
 use Rattle.xcf_tile.specs.Tile.{Tile, pixel, interleave, encodedTile, tileIn, tileOf}
-use Rattle.xcf_store.specs.Pointer.{pointerSize}
+use Rattle.xcf_store.specs.Pointer.{narrow}
 use Rattle.xcf_read.specs.Image.{image, structureByte}
 use Rattle.xcf_read.specs.Answer.{Reading, readingOf, reading, rowOf}
 use Rattle.xcf_window.specs.Window.{pointerAt, windowEnd, windowLength, window, InWindow, tile}
@@ -42,22 +42,22 @@ abbrev onePixel : ℕ → ℕ → ℕ → Decoding
 onePixel marked mark pixel = record { answer = record { number = 0; place = 0; marked = marked }; pixels = pixel ∷ []; marks = mark ∷ [] }
 
 record Tiles : Type 0 where
-  place : (opcode : ℕ) → pointerAt pointerSize (pairFile opcode) (rowOf given 0) 0 ≡ 145
-  first : (opcode : ℕ) → tileGiven pointerSize (pairFile opcode) given 0 0 ≡ oneCopy
-  marked : tileGiven pointerSize (pairFile 128) given 1 0 .mark ≡ Mark.short
-  firstShown : (opcode : ℕ) → rowDecoding pointerSize (pairFile opcode) (rowOf given 0) 1 ≡ onePixel 0 0 255
-  secondShown : rowDecoding pointerSize (pairFile 255) (rowOf given 1) 1 ≡ onePixel 0 0 255
-  markedShown : rowDecoding pointerSize (pairFile 128) (rowOf given 1) 1 ≡ onePixel 1 Mark.short 0
+  place : (opcode : ℕ) → pointerAt narrow (pairFile opcode) (rowOf given 0) 0 ≡ 145
+  first : (opcode : ℕ) → tileGiven (pairFile opcode) given 0 0 ≡ oneCopy
+  marked : tileGiven (pairFile 128) given 1 0 .mark ≡ Mark.short
+  firstShown : (opcode : ℕ) → rowDecoding narrow (pairFile opcode) (rowOf given 0) 1 ≡ onePixel 0 0 255
+  secondShown : rowDecoding narrow (pairFile 255) (rowOf given 1) 1 ≡ onePixel 0 0 255
+  markedShown : rowDecoding narrow (pairFile 128) (rowOf given 1) 1 ≡ onePixel 1 Mark.short 0
 
 tiles : Tiles
 unfolding tableOf marksOf nonzero rowDecoding pointerAt windowEnd windowLength window tile tabulate pixelsOf rowAt bigEndian headOf headAt operationOf operationAt streamFrom streamWithin streamAt streamsAt pixel interleave encodedTile tileIn tileOf
 tiles = record { place = λ _. refl; first = λ _. refl; marked = refl; firstShown = λ _. refl; secondShown = refl; markedShown = refl }
 
-no-structure : (opcode : ℕ) → structureByte pointerSize (pairFile opcode) 233 → ⊥
+no-structure : (opcode : ℕ) → structureByte (pairFile opcode) 233 → ⊥
 unfolding structureByte
-no-structure opcode = not-passed (image pointerSize) (pairFile opcode) 0 233 (walks .pairFree opcode)
+no-structure opcode = not-passed image (pairFile opcode) 0 233 (walks .pairFree opcode)
 
-not-consumed : (opcode : ℕ) → Consumed pointerSize (pairFile opcode) given 0 0 233 → ⊥
+not-consumed : (opcode : ℕ) → Consumed (pairFile opcode) given 0 0 233 → ⊥
 unfolding Consumed
 not-consumed opcode c = omega (arith, rw (tiles .place opcode, tiles .first opcode) at (c .1))
 
@@ -75,18 +75,18 @@ only-tile t k is = by-row (λ k. t < rowOf given k .count → t ≡ 0) only only
     only : t < 1 → t ≡ 0
     only below = omega (arith, below)
 
-none-consumed : ConsumedByGood pointerSize (pairFile 128) given 233 → ⊥
+none-consumed : ConsumedByGood (pairFile 128) given 233 → ⊥
 none-consumed c =
     let tile = only-tile (c .t) (c .k) (c .good .is) in
-    by-row (λ k. tileGiven pointerSize (pairFile 128) given k 0 .mark ≡ 0 → Consumed pointerSize (pairFile 128) given k 0 233 → ⊥)
+    by-row (λ k. tileGiven (pairFile 128) given k 0 .mark ≡ 0 → Consumed (pairFile 128) given k 0 233 → ⊥)
     (λ _. not-consumed 128) (λ good _. let short : Mark.short ≡ 0 = sym (tiles .marked) ∙ good in omega (arith, short))
     (c .k) (c .good .is .row) (rw tile at (c .good .good)) (rw tile at (c .consumed))
 
-covers : (i : ℕ) → 145 ≤ i → i < 235 → InWindow pointerSize (pairFile 255) (rowOf given 0) 0 i
+covers : (i : ℕ) → 145 ≤ i → i < 235 → InWindow narrow (pairFile 255) (rowOf given 0) 0 i
 unfolding tableOf bigEndian rowAt InWindow pointerAt windowEnd windowLength
 covers i lo hi = (omega (arith, lo), omega (arith, hi))
 
-first-good : GoodTile pointerSize (pairFile 255) given 0 0
+first-good : GoodTile (pairFile 255) given 0 0
 unfolding tableOf rowAt
 first-good = record { is = record { row = omega arith; tile = omega arith }; good = ap (λ (t : Tile). t .mark) (tiles .first 255) }
 
@@ -101,12 +101,12 @@ module _ (lent pixels marks : List ℕ) (size : length lent ≡ tableSize) (p : 
   accepted : (opcode : ℕ) → reading (pairFile opcode) lent .answer .number ≡ 0
   accepted opcode = rw (read opcode)
 
-  second-pointer : structureByte pointerSize (pairFile 255) 225
+  second-pointer : structureByte (pairFile 255) 225
   unfolding tableOf rowAt
   second-pointer = pointers-passed (pairFile 255) lent (accepted 255) 1 (rw (read 255) (omega arith)) 225 (rw (read 255) (omega arith)) (rw (read 255) (omega arith))
 
   decoded : (opcode k : ℕ) → k < 2
-      → decodingGiven pointerSize (pairFile opcode) (reading (pairFile opcode) lent) k pixels marks ≡ rowDecoding pointerSize (pairFile opcode) (rowOf given k) 1
+      → decodingGiven (pairFile opcode) (reading (pairFile opcode) lent) k pixels marks ≡ rowDecoding narrow (pairFile opcode) (rowOf given k) 1
   decoded opcode k below =
       let fit = fitting pixels marks p m k below in
       row-decoded (pairFile opcode) lent (accepted opcode) k (rw (read opcode) below) pixels marks (rw (read opcode) fit) ∙ rw (read opcode)
@@ -115,13 +115,13 @@ module _ (lent pixels marks : List ℕ) (size : length lent ≡ tableSize) (p : 
   example-kept = record {
     accepted = accepted;
     good = rw (read 255) first-good;
-    agree = rw (read 255) (agree-without (pairFile 0) 233 255 128 (TileByte pointerSize (pairFile 255) given 0 0) (⊎-elim (no-structure 255) (not-consumed 255)));
+    agree = rw (read 255) (agree-without (pairFile 0) 233 255 128 (TileByte (pairFile 255) given 0 0) (⊎-elim (no-structure 255) (not-consumed 255)));
     covers = rw (read 255) covers;
     structure = second-pointer;
     chosen = λ Chosen damage free.
-        let inside : InWindow pointerSize (pairFile 255) (rowOf given 0) 0 233 = covers 233 (omega arith) (omega arith) in
+        let inside : InWindow narrow (pairFile 255) (rowOf given 0) 0 233 = covers 233 (omega arith) (omega arith) in
         damage .others 233 (λ e. omega (arith, e)) 0 0 (rw (read 255) (first-good .is)) free (rw (read 255) inside);
-    back = rw (read 128) (agree-without (pairFile 0) 233 128 255 (GoodByte pointerSize (pairFile 128) given) (⊎-elim (no-structure 128) none-consumed));
+    back = rw (read 128) (agree-without (pairFile 0) 233 128 255 (GoodByte (pairFile 128) given) (⊎-elim (no-structure 128) none-consumed));
     given = λ opcode. rw (read opcode) (tiles .first opcode);
     first = λ opcode. decoded opcode 0 (omega arith) ∙ tiles .firstShown opcode;
     second = decoded 255 1 (omega arith) ∙ tiles .secondShown;

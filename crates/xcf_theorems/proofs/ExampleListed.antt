@@ -10,7 +10,7 @@ use Rattle.xcf_walk.specs.Walk.{run, bytes, here, must, fileLength}
 use Rattle.xcf_walk.specs.Fields.{number}
 use Rattle.xcf_walk.specs.Pointers.{tiles}
 use Rattle.xcf_store.specs.Word.{bigEndian}
-use Rattle.xcf_store.specs.Pointer.{pointerSize}
+use Rattle.xcf_store.specs.Pointer.{narrow, pointerSizeOk}
 use Rattle.xcf_table.specs.Table.{rowAt}
 use Rattle.xcf_grid.specs.Pixels.{tabulate}
 use Rattle.xcf_operation.specs.Operation.{headOf, headAt, operationOf, operationAt}
@@ -34,19 +34,19 @@ use Rattle.xcf_theorems.proofs.ListerNumbers.{within-all}
 -- what the reader gives
 abbrev given : Reading
 given = record {
-  answer = record { number = 0; place = 0; width = 1; height = 1; base = 1; version = 0; compression = 1; rows = 1 };
+  answer = record { number = 0; place = 0; width = 1; height = 1; base = 1; version = 0; compression = 1; rows = 1; size = 4 };
   table = exampleRow ++ replicate (tableSize - rowSize) 0;
 }
 
-none-marked : counting pointerSize exampleFile (given .table) 0 1 .marked ≡ 0
-unfolding counting drawableRefusal rowRefusal decodableRow inRange inFile rowAt run bytes here must fileLength bigEndian number tiles marksOf nonzero tabulate tile window windowLength windowEnd pointerAt headOf headAt operationOf operationAt streamFrom streamWithin streamAt streamsAt pixel interleave encodedTile tileIn tileOf
+none-marked : counting narrow exampleFile (given .table) 0 1 .marked ≡ 0
+unfolding counting drawableRefusal rowRefusal decodableRow pointerSizeOk inRange inFile rowAt run bytes here must fileLength bigEndian number tiles marksOf nonzero tabulate tile window windowLength windowEnd pointerAt headOf headAt operationOf operationAt streamFrom streamWithin streamAt streamsAt pixel interleave encodedTile tileIn tileOf
 none-marked = refl
 
 lines : linesOf exampleFile given ≡ exampleListing
 unfolding linesOf canvasLine rowLines rowLine kindName rowAt decimalWithin decimal spaced flatMap
 lines = rw none-marked refl
 
-marks : markedTiles exampleFile (given .table) 1 0 1 ≡ 0
+marks : markedTiles narrow exampleFile (given .table) 1 0 1 ≡ 0
 unfolding markedTiles
 marks = rw none-marked
 

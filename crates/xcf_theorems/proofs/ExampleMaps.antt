@@ -14,12 +14,11 @@ use Rattle.xcf_property.specs.Property.{lengthOk, contentOf, isColourMap, mapLe
 use Rattle.xcf_walk.specs.Property.{payload, colourMap, content, property, propertyTurn, properties}
 use Rattle.xcf_walk.specs.Pointers.{pointers}
 use Rattle.xcf_table.specs.Table.{tableOf}
-use Rattle.xcf_parse.specs.Header.{same, versionIn, header}
-use Rattle.xcf_store.specs.Pointer.{pointerSize}
+use Rattle.xcf_parse.specs.Header.{same, placeIn, header}
 use Rattle.xcf_table.specs.Canvas.{sideOk}
 use Rattle.xcf_parse.specs.Drawable.{side}
-use Rattle.xcf_parse.specs.Image.{baseOk, baseType, head}
-use Rattle.xcf_read.specs.Image.{Image, drawables, canvasOf, image}
+use Rattle.xcf_parse.specs.Image.{pointerSize, baseOk, baseType, precision, head}
+use Rattle.xcf_read.specs.Image.{Image, drawables, canvasOf, allRows, image}
 use Rattle.xcf_read.specs.Answer.{reading}
 use Rattle.xcf_read_laws.proofs.Accepted.{read-walked}
 use Rattle.xcf_theorems.specs.MapExample.{mapFile}
@@ -31,10 +30,10 @@ empty = got (record {
   rows = record { count = 0; numbers = [] };
 }) 66
 
-walked : (run (image pointerSize) (mapFile 7) 0 ≡ empty)
-    × (run (image pointerSize) (mapFile 5) 0 ≡ empty)
-    × (run (image pointerSize) (mapFile 6) 0 ≡ refused Refusal.badLength 30)
-unfolding run bytes here must fileLength jump loop turns bigEndian number word lengthOk wordOf contentOf payload isColourMap mapLengthOk colourMap content property isFloating lacksMap allowed activeType put propertyTurn properties same versionIn header sideOk side baseOk baseType head pointers drawables canvasOf image
+walked : (run image (mapFile 7) 0 ≡ empty)
+    × (run image (mapFile 5) 0 ≡ empty)
+    × (run image (mapFile 6) 0 ≡ refused Refusal.badLength 30)
+unfolding run bytes here must fileLength jump loop turns bigEndian number word lengthOk wordOf contentOf payload isColourMap mapLengthOk colourMap content property isFloating lacksMap allowed activeType put propertyTurn properties same placeIn header sideOk side baseOk baseType precision head pointers drawables canvasOf allRows image
 walked = (refl, refl, refl)
 
 pub example-maps : ExampleMapsAreRead

@@ -1,6 +1,7 @@
 pub mod ExampleWalks
 pub mod ExampleRead
 pub mod ExampleMaps
+pub mod ExampleVersion11
 pub mod ExampleWritten
 pub mod OneByte
 pub mod ExampleDamaged

@@ -4,7 +4,6 @@ use mathlib.Core.Path.{refl, sym}
 use mathlib.Core.List.{[], flatMap}
 use native.Mathlib.Nat.{zero-add, mul-le-mul}
 use native.Mathlib.Omega.{arith}
-use Rattle.xcf_store.specs.Pointer.{pointerSize}
 use Rattle.xcf_operation.specs.Operation.{headOf, headAt, operationOf, operationAt}
 use Rattle.xcf_stream.specs.Stream.{streamFrom, streamWithin, streamAt}
 use Rattle.xcf_stream.specs.Streams.{streamsAt}
@@ -26,12 +25,13 @@ use Rattle.xcf_read_laws.proofs.Accepts.{accepts}
 use Rattle.xcf_read_laws.proofs.ReadDepends.{read-depends}
 use Rattle.xcf_read_laws.proofs.Numbers.{refusals-listed}
 use Rattle.xcf_read_laws.proofs.ReaderNumbers.{reader-listed}
+use Rattle.xcf_read_laws.proofs.Widths.{past-end, tile-past-end, precision-rule, lengths-floating, reading-sized}
 use Rattle.xcf_tile_laws.proofs.Marks.{mark-listed}
 use Rattle.xcf_tile_laws.proofs.TileNumbers.{tile-listed}
 use Rattle.xcf_tile_laws.proofs.GoodWhenValid.{tile-good-when-valid as good-when-valid}
 use Rattle.xcf_grid.proofs.PixelLaws.{pixel-byte, one-tile, tile-shown}
 use Rattle.xcf_decode_laws.proofs.Counted.{count-decoded, marks-counted}
-use Rattle.xcf_decode_laws.proofs.Refused.{decoder-listed, counter-listed}
+use Rattle.xcf_decode_laws.proofs.Refused.{decoder-listed, counter-listed, sizes-unusable}
 use Rattle.xcf_decode_laws.proofs.TilesGood.{drawable-good-when-valid}
 use Rattle.xcf_decode_laws.proofs.RowDecoded.{row-decoded}
 use Rattle.xcf_isolation.proofs.Kept.{good-tile-kept, good-tiles-kept}
@@ -42,12 +42,13 @@ use Rattle.xcf_round_trip.proofs.RoundTrip.{round-trip}
 use Rattle.xcf_round_trip.proofs.GivenTaken.{given-is-taken}
 use Rattle.xcf_round_trip.proofs.TakenExcepted.{taken-is-excepted}
 use Rattle.xcf_theorems.proofs.ExampleMaps.{example-maps}
+use Rattle.xcf_theorems.proofs.ExampleVersion11.{example-11}
 use Rattle.xcf_theorems.proofs.ExampleRead.{example-read, latin-read}
 use Rattle.xcf_theorems.proofs.ExampleWritten.{example-written, latin-refused}
 use Rattle.xcf_theorems.proofs.ExampleListed.{example-listed}
 use Rattle.xcf_theorems.proofs.ExampleDamaged.{example-damaged}
 use Rattle.xcf_theorems.proofs.ExampleKept.{example-kept}
-use Rattle.xcf_theorems.specs.Statements.{ReaderRefusalsAreListed, RefusalsAreListed, PassedBytesDecide, DecoderRefusalsAreListed, CounterRefusalsAreListed, TileRefusalsAreListed, MarksAreListed, EncoderRefusalsAreListed, WriterRefusalsAreListed, ListerRefusalsAreListed, ListerAnswersAsTheReader, AcceptedWithoutFault, ColourMapsAreTaken, ExampleMapsAreRead, WellFormedIsText, NamesAreTold, ExampleNameIsTold, AcceptedRowsDecode, TileGoodWhenValid, DrawableTilesGoodWhenValid, CountIsOfTheMarks, CountIsTheDecoders, PixelsAreWhole, MarkedPixelsAreZero, PixelsAreStreams, PixelsAreTheirTiles, EachPixelHasOneTile, TilesAreShown, WrittenReadsBack, GivenRowsAreTaken, TakenRowsAreExcepted, EncodedStreamBounded, StreamReadsBack, TileReadsBack, EncodedTileFits, DamageIsIsolated, ExampleIsDamaged, GoodTileIsKept, GoodTilesAreKept, ExampleTileIsKept, StructureBytesDecide, ConsumedBytesDecide, ConsumedBytesDecideTheCall, ExamplesHold, ExampleFileIsRead, ExampleFileIsWritten, ExampleFileIsListed}
+use Rattle.xcf_theorems.specs.Statements.{ReaderRefusalsAreListed, RefusalsAreListed, PassedBytesDecide, DecoderRefusalsAreListed, CounterRefusalsAreListed, TileRefusalsAreListed, MarksAreListed, EncoderRefusalsAreListed, WriterRefusalsAreListed, ListerRefusalsAreListed, ListerAnswersAsTheReader, AcceptedWithoutFault, ColourMapsAreTaken, ExampleMapsAreRead, VersionSizesPointers, PrecisionIsAsked, FloatingLengths, PointersPastTheEnd, OtherSizesAreUnusable, WellFormedIsText, NamesAreTold, ExampleNameIsTold, AcceptedRowsDecode, TileGoodWhenValid, DrawableTilesGoodWhenValid, CountIsOfTheMarks, CountIsTheDecoders, PixelsAreWhole, MarkedPixelsAreZero, PixelsAreStreams, PixelsAreTheirTiles, EachPixelHasOneTile, TilesAreShown, WrittenReadsBack, GivenRowsAreTaken, TakenRowsAreExcepted, EncodedStreamBounded, StreamReadsBack, TileReadsBack, EncodedTileFits, DamageIsIsolated, ExampleIsDamaged, GoodTileIsKept, GoodTilesAreKept, ExampleTileIsKept, StructureBytesDecide, ConsumedBytesDecide, ConsumedBytesDecideTheCall, ExamplesHold, ExampleFileIsRead, ExampleFileIsWritten, ExampleFileIsListed, ExampleOfVersion11IsRead}
 
 -- ## Any bytes
 
@@ -55,7 +56,7 @@ pub reader-refusals-are-listed : ReaderRefusalsAreListed
 reader-refusals-are-listed = reader-listed
 
 pub refusals-are-listed : RefusalsAreListed
-refusals-are-listed = refusals-listed pointerSize (omega arith)
+refusals-are-listed = refusals-listed
 
 pub decoder-refusals-are-listed : DecoderRefusalsAreListed
 decoder-refusals-are-listed = decoder-listed
@@ -93,6 +94,21 @@ colour-maps-are-taken = map-rule
 
 pub example-maps-are-read : ExampleMapsAreRead
 example-maps-are-read = example-maps
+
+pub version-sizes-pointers : VersionSizesPointers
+version-sizes-pointers = reading-sized
+
+pub precision-is-asked : PrecisionIsAsked
+precision-is-asked = precision-rule
+
+pub floating-lengths : FloatingLengths
+floating-lengths = lengths-floating
+
+pub pointers-past-the-end : PointersPastTheEnd
+pointers-past-the-end = (past-end, tile-past-end)
+
+pub other-sizes-are-unusable : OtherSizesAreUnusable
+other-sizes-are-unusable = sizes-unusable
 
 pub well-formed-is-text : WellFormedIsText
 well-formed-is-text = well-formed-text
@@ -205,3 +221,6 @@ example-file-is-written = example-written
 
 pub example-file-is-listed : ExampleFileIsListed
 example-file-is-listed = example-listed
+
+pub example-of-version-11-is-read : ExampleOfVersion11IsRead
+example-of-version-11-is-read = example-11

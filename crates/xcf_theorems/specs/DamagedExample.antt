@@ -5,7 +5,6 @@ use mathlib.Core.Path.{_≡_}
 use mathlib.Core.List.{List, [], _∷_, _++_}
 use lib.ListN.{take, set, replicate}
 use Rattle.xcf_numbers.specs.Mark
-use Rattle.xcf_store.specs.Pointer.{pointerSize}
 use Rattle.xcf_read.specs.Answer.{reading}
 use Rattle.xcf_decode_laws.specs.Given.{decodingGiven}
 use Rattle.xcf_isolation.specs.Isolation.{Damaged}
@@ -28,8 +27,8 @@ FirstTile k t = (k ≡ 0) × (t ≡ 0)
 -- the wide file is accepted, the other is damaged in that tile, and what each shows in buffers that fit, whatever these held
 pub record DamagedExample (lent pixels marks : List ℕ) : Type 0 where
   pub accepted : reading wideFile lent .answer .number ≡ 0
-  pub damaged : Damaged pointerSize wideFile damagedFile (reading wideFile lent) FirstTile
-  pub good : decodingGiven pointerSize wideFile (reading wideFile lent) 0 pixels marks
+  pub damaged : Damaged wideFile damagedFile (reading wideFile lent) FirstTile
+  pub good : decodingGiven wideFile (reading wideFile lent) 0 pixels marks
       ≡ record { answer = record { number = 0; place = 0; marked = 0 }; pixels = replicate 64 255 ++ (7 ∷ []); marks = 0 ∷ 0 ∷ [] }
-  pub marked : decodingGiven pointerSize damagedFile (reading damagedFile lent) 0 pixels marks
+  pub marked : decodingGiven damagedFile (reading damagedFile lent) 0 pixels marks
       ≡ record { answer = record { number = 0; place = 0; marked = 1 }; pixels = replicate 64 0 ++ (7 ∷ []); marks = Mark.short ∷ 0 ∷ [] }

@@ -6,7 +6,7 @@ use mathlib.Core.Path.{_≡_}
 use mathlib.Core.List.{List, [], _∷_, _++_}
 use lib.ListN.{take, drop, set}
 use Rattle.xcf_numbers.specs.Mark
-use Rattle.xcf_store.specs.Pointer.{pointerSize}
+use Rattle.xcf_store.specs.Pointer.{narrow}
 use Rattle.xcf_tile.specs.Tile.{Tile}
 use Rattle.xcf_read.specs.Image.{structureByte}
 use Rattle.xcf_read.specs.Answer.{reading, rowOf}
@@ -36,18 +36,18 @@ oneCopy = record { mark = 0; consumed = 2; operations = 1; pixels = 255 ∷ [] }
 -- given for the first tile, and what is shown of both in buffers that fit, whatever these held.
 pub record KeptExample (lent pixels marks : List ℕ) : Type 1 where
   pub accepted : (opcode : ℕ) → reading (pairFile opcode) lent .answer .number ≡ 0
-  pub good : GoodTile pointerSize (pairFile 255) (reading (pairFile 255) lent) 0 0
-  pub agree : Agree (pairFile 255) (pairFile 128) (TileByte pointerSize (pairFile 255) (reading (pairFile 255) lent) 0 0)
-  pub covers : (i : ℕ) → 145 ≤ i → i < 235 → InWindow pointerSize (pairFile 255) (rowOf (reading (pairFile 255) lent) 0) 0 i
-  pub structure : structureByte pointerSize (pairFile 255) 225
-  pub chosen : (Chosen : ℕ → ℕ → Type 0) → Damaged pointerSize (pairFile 255) (pairFile 128) (reading (pairFile 255) lent) Chosen
+  pub good : GoodTile (pairFile 255) (reading (pairFile 255) lent) 0 0
+  pub agree : Agree (pairFile 255) (pairFile 128) (TileByte (pairFile 255) (reading (pairFile 255) lent) 0 0)
+  pub covers : (i : ℕ) → 145 ≤ i → i < 235 → InWindow narrow (pairFile 255) (rowOf (reading (pairFile 255) lent) 0) 0 i
+  pub structure : structureByte (pairFile 255) 225
+  pub chosen : (Chosen : ℕ → ℕ → Type 0) → Damaged (pairFile 255) (pairFile 128) (reading (pairFile 255) lent) Chosen
       → (Chosen 0 0 → ⊥) → ⊥
-  pub back : Agree (pairFile 128) (pairFile 255) (GoodByte pointerSize (pairFile 128) (reading (pairFile 128) lent))
-  pub given : (opcode : ℕ) → tileGiven pointerSize (pairFile opcode) (reading (pairFile opcode) lent) 0 0
+  pub back : Agree (pairFile 128) (pairFile 255) (GoodByte (pairFile 128) (reading (pairFile 128) lent))
+  pub given : (opcode : ℕ) → tileGiven (pairFile opcode) (reading (pairFile opcode) lent) 0 0
       ≡ oneCopy
-  pub first : (opcode : ℕ) → decodingGiven pointerSize (pairFile opcode) (reading (pairFile opcode) lent) 0 pixels marks
+  pub first : (opcode : ℕ) → decodingGiven (pairFile opcode) (reading (pairFile opcode) lent) 0 pixels marks
       ≡ record { answer = record { number = 0; place = 0; marked = 0 }; pixels = 255 ∷ []; marks = 0 ∷ [] }
-  pub second : decodingGiven pointerSize (pairFile 255) (reading (pairFile 255) lent) 1 pixels marks
+  pub second : decodingGiven (pairFile 255) (reading (pairFile 255) lent) 1 pixels marks
       ≡ record { answer = record { number = 0; place = 0; marked = 0 }; pixels = 255 ∷ []; marks = 0 ∷ [] }
-  pub marked : decodingGiven pointerSize (pairFile 128) (reading (pairFile 128) lent) 1 pixels marks
+  pub marked : decodingGiven (pairFile 128) (reading (pairFile 128) lent) 1 pixels marks
       ≡ record { answer = record { number = 0; place = 0; marked = 1 }; pixels = 0 ∷ []; marks = Mark.short ∷ [] }

@@ -22,21 +22,22 @@ use Rattle.xcf_tile_laws.specs.Valid.{GoodWhenValid}
 use Rattle.xcf_segment.specs.Segment.{segments, encodeStream}
 use Rattle.xcf_encode.specs.Tile.{planes, operationsOf, encodeTile}
 use Rattle.xcf_encode.specs.Answer.{encoderNumbers, tileRefusal, encodeAnswer}
-use Rattle.xcf_property.specs.Property.{imageList}
+use Rattle.xcf_property.specs.Property.{imageList, lengthOk}
 use Rattle.xcf_walk.specs.Walk.{Walk, got, refused, run, PassedOver}
 use Rattle.xcf_walk.specs.Property.{content}
 use Rattle.xcf_walk_laws.specs.Map.{MapRule}
 use Rattle.xcf_table.specs.Name.{Told}
 use Rattle.xcf_table.specs.Table.{rowAt}
-use Rattle.xcf_store.specs.Pointer.{pointerSize}
+use Rattle.xcf_parse.specs.Image.{pointerSize, precision}
 use Rattle.xcf_read.specs.Image.{Image, image, structureByte}
 use Rattle.xcf_read.specs.Answer.{refusal, refusals, verdictNumbers, readerNumbers, readingOf, reading, rowOf}
 use Rattle.xcf_grid.specs.Grid.{tileWidth, tileHeight, tileCount}
 use Rattle.xcf_grid.specs.Pixels.{HasPixel, tileAt, byteOf, byteIn, pixelsOf, shown}
 use Rattle.xcf_window.specs.Window.{window}
 use Rattle.xcf_window.specs.Usable.{fits}
+use Rattle.xcf_read_laws.specs.Widths.{Sized, PrecisionRule, FloatingLength, PastEnd, TilePastEnd}
 use Rattle.xcf_decode.specs.Answer.{decoderNumbers, nonzero, rowDecoding, decoding, counting}
-use Rattle.xcf_decode_laws.specs.Given.{pointerSizeOf, Fit, decodingGiven}
+use Rattle.xcf_decode_laws.specs.Given.{Fit, decodingGiven}
 use Rattle.xcf_isolation.specs.Kept.{GoodTileKept, GoodTilesKept}
 use Rattle.xcf_isolation.specs.Isolation.{Isolation}
 use Rattle.xcf_table.specs.declared.canvas.Canvas.{Canvas}
@@ -49,6 +50,7 @@ use Rattle.xcf_theorems.specs.ExampleFile.{exampleNamed, exampleFile, ex
 use Rattle.xcf_theorems.specs.Examples.{table, All}
 use Rattle.xcf_theorems.specs.KeptExample.{KeptExample}
 use Rattle.xcf_theorems.specs.MapExample.{mapFile}
+use Rattle.xcf_theorems.specs.Version11Example.{version11File, version11Row}
 
 -- ## Any bytes
 -- Whatever it is lent, each exported call answers a number of its list (RULES, "Any bytes"). That it ends, touches nothing else and has
@@ -58,9 +60,9 @@ use Rattle.xcf_theorems.specs.MapExample.{mapFile}
 abbrev pub ReaderRefusalsAreListed : Type 0
 ReaderRefusalsAreListed = (file table : List ℕ) → listed readerNumbers (reading file table .answer .number) ≡ true
 
--- The walk refuses with 1 to 10, 12, 13 or 16.
+-- The walk refuses with 1 to 10, 12, 13, 16 or 25.
 abbrev pub RefusalsAreListed : Type 0
-RefusalsAreListed = (file : List ℕ) (n p : ℕ) → refused n p ≡ run (image pointerSize) file 0 → listed refusals n ≡ true
+RefusalsAreListed = (file : List ℕ) (n p : ℕ) → refused n p ≡ run image file 0 → listed refusals n ≡ true
 
 -- The decoder answers 0, 11, 13, 14 or 15.
 abbrev pub DecoderRefusalsAreListed : Type 0
@@ -115,8 +117,8 @@ ListerAnswersAsTheReader = (file table text : List ℕ) → ListsAsTheReader fil
 abbrev pub AcceptedWithoutFault : Type 0
 AcceptedWithoutFault =
     (file table : List ℕ) → length table ≡ tableSize → length file ≤ fileLimit
-    → (reading file table .answer .number ≡ 0 → (x : Image) × (q : ℕ) × (got x q ≡ run (image pointerSize) file 0))
-    × ((x : Image) (q : ℕ) → got x q ≡ run (image pointerSize) file 0
+    → (reading file table .answer .number ≡ 0 → (x : Image) × (q : ℕ) × (got x q ≡ run image file 0))
+    × ((x : Image) (q : ℕ) → got x q ≡ run image file 0
     → (reading file table .answer .number ≡ 0) × (reading file table ≡ readingOf (got x q)))
 
 -- A colour map in the image's list is taken exactly when it has at most 256 colours, its length word says 3n + 4 or, as in files of old
@@ -124,7 +126,8 @@ AcceptedWithoutFault =
 -- other is refused for its first fault: in full in `xcf_walk_laws/specs/Map.antt`.
 abbrev pub ColourMapsAreTaken : Type 0
 ColourMapsAreTaken =
-    (file : List ℕ) (lengthAt n at : ℕ) → MapRule file lengthAt n at (run (content imageList PropertyType.colourMap lengthAt n) file at)
+    (size : ℕ) (file : List ℕ) (lengthAt n at : ℕ)
+    → MapRule file lengthAt n at (run (content size imageList PropertyType.colourMap lengthAt n) file at)
 
 -- Such are the maps of one file with the lengths 7 and 5, which reads the same with either; with 6 it is refused.
 abbrev pub ExampleMapsAreRead : Type 0
@@ -132,11 +135,40 @@ ExampleMapsAreRead =
     (table : List ℕ) → length table ≡ tableSize
     → (reading (mapFile 7) table
     ≡ record {
-      answer = record { number = 0; place = 0; width = 1; height = 1; base = 2; version = 1; compression = 1; rows = 0 };
+      answer = record { number = 0; place = 0; width = 1; height = 1; base = 2; version = 1; compression = 1; rows = 0; size = 4 };
       table = replicate tableSize 0;
     })
     × (reading (mapFile 5) table ≡ reading (mapFile 7) table)
     × (reading (mapFile 6) table .answer ≡ refusal Refusal.badLength 30)
+
+-- The reading says how many bytes a pointer has: 8 in version 11, 4 in versions 0 to 3, the only others that are read; a refusal says
+-- 0. In full in `xcf_read_laws/specs/Widths.antt`, as are the next three.
+abbrev pub VersionSizesPointers : Type 0
+VersionSizesPointers = (file lent : List ℕ) → Sized (reading file lent)
+
+-- In version 11 a precision word follows the base type: 1 where it is missing, else 25 unless it is 150. No other version has one.
+abbrev pub PrecisionIsAsked : Type 0
+PrecisionIsAsked = (file : List ℕ) (version at : ℕ) → PrecisionRule file version at (run (precision version) file at)
+
+-- A property of type 5 may have 4 bytes, in version 11 also 8, and no other length.
+abbrev pub FloatingLengths : Type 0
+FloatingLengths =
+    (version n : ℕ)
+    → (lengthOk (pointerSize version) PropertyType.floating n ≡ true → FloatingLength version n)
+    × (FloatingLength version n → lengthOk (pointerSize version) PropertyType.floating n ≡ true)
+
+-- Where a pointer, of whichever size, leads to no structure's first word, the refusal is 1 at its whole value; where a tile's is not below
+-- the file's length, it is 13 at the pointer's own place.
+abbrev pub PointersPastTheEnd : Type 0
+PointersPastTheEnd = ((file : List ℕ) (p : ℕ) → length file < p + 4 → PastEnd file p) × TilePastEnd
+
+-- The decoder and the count refuse any size of pointers but 4 and 8 with 14, where the table and the file are no wrong size.
+abbrev pub OtherSizesAreUnusable : Type 0
+OtherSizesAreUnusable =
+    (size : ℕ) (file table : List ℕ) (k compression : ℕ) (pixels marks : List ℕ) → (size ≡ 4 → ⊥) → (size ≡ 8 → ⊥)
+    → length table ≡ tableSize → length file ≤ fileLimit
+    → (decoding size file table k compression pixels marks ≡ record { answer = record { number = Refusal.unusable; place = 0; marked = 0 }; pixels = pixels; marks = marks })
+    × (counting size file table k compression ≡ record { number = Refusal.unusable; place = 0; marked = 0 })
 
 -- Bytes are well-formed exactly where they are UTF-8 text: characters one after another, each of a form of RFC 3629's grammar. In full
 -- in `xcf_utf8/specs/Grammar.antt`.
@@ -157,7 +189,7 @@ ExampleNameIsTold =
     (table output : List ℕ) → length table ≡ tableSize
     → (reading (exampleNamed 0xE9) table
     ≡ record {
-      answer = record { number = 0; place = 0; width = 1; height = 1; base = 1; version = 0; compression = 1; rows = 1 };
+      answer = record { number = 0; place = 0; width = 1; height = 1; base = 1; version = 0; compression = 1; rows = 1; size = 4 };
       table = exampleFlagged 33 ++ replicate (tableSize - rowSize) 0;
     })
     × (writing (record { width = 1; height = 1; base = 1 }) exampleTable (0xE9 ∷ []) (255 ∷ []) output
@@ -168,8 +200,8 @@ abbrev pub AcceptedRowsDecode : Type 0
 AcceptedRowsDecode =
     (file lent : List ℕ) →
     let x = reading file lent in
-    x .answer .number ≡ 0 → (k : ℕ) → k < x .answer .rows → (pixels marks : List ℕ) → Fit x k pixels marks →
-    let size = pointerSizeOf x in decodingGiven size file x k pixels marks ≡ rowDecoding size file (rowOf x k) (x .answer .compression)
+    x .answer .number ≡ 0 → (k : ℕ) → k < x .answer .rows → (pixels marks : List ℕ) → Fit x k pixels marks
+    → decodingGiven file x k pixels marks ≡ rowDecoding (x .answer .size) file (rowOf x k) (x .answer .compression)
 
 -- A tile is good exactly when its window begins with a valid encoding, and then shows that encoding's pixels; otherwise it is marked
 -- and its pixels are zero (in full in `xcf_tile_laws/specs/Valid.antt`): for every window, sides, depth and compression …
@@ -325,7 +357,7 @@ PassedBytesDecide =
 abbrev pub StructureBytesDecide : Type 0
 StructureBytesDecide =
     (file other table : List ℕ) → length file ≡ length other
-    → ((i : ℕ) → structureByte pointerSize file i → getD file i 0 ≡ getD other i 0)
+    → ((i : ℕ) → structureByte file i → getD file i 0 ≡ getD other i 0)
     → reading file table ≡ reading other table
 
 -- A good tile depends only on the bytes it consumed: another window that has them first gives the same tile.
@@ -357,7 +389,7 @@ ExampleFileIsRead =
     (table : List ℕ) → length table ≡ tableSize
     → reading exampleFile table
     ≡ record {
-      answer = record { number = 0; place = 0; width = 1; height = 1; base = 1; version = 0; compression = 1; rows = 1 };
+      answer = record { number = 0; place = 0; width = 1; height = 1; base = 1; version = 0; compression = 1; rows = 1; size = 4 };
       table = exampleRow ++ replicate (tableSize - rowSize) 0;
     }
 
@@ -378,3 +410,23 @@ ExampleFileIsListed =
       table = exampleRow ++ replicate (tableSize - rowSize) 0;
       text = exampleListing ++ drop 101 text;
     }
+
+-- The example file in version 11, with pointers of 8 bytes, is accepted and says so; another precision is refused, and so is a pointer
+-- to the last of all places, at its whole value, and a tile pointer whose low word alone would be right. Its pixel is decoded with
+-- pointers of 8 bytes; the decoder that is told 4 finds a 0 for a tile pointer.
+abbrev pub ExampleOfVersion11IsRead : Type 0
+ExampleOfVersion11IsRead =
+    (table pixels marks : List ℕ) → length table ≡ tableSize → length pixels ≡ 1 → length marks ≡ 1 →
+    let file = version11File 150 0 71 0 in
+    let x = reading file table in
+    (x
+    ≡ record {
+      answer = record { number = 0; place = 0; width = 1; height = 1; base = 1; version = 11; compression = 1; rows = 1; size = 8 };
+      table = version11Row ++ replicate (tableSize - rowSize) 0;
+    })
+    × (reading (version11File 100 0 71 0) table .answer ≡ refusal Refusal.badPrecision 26)
+    × (reading (version11File 150 255 255 0) table .answer ≡ refusal Refusal.pastEnd 18446744073709551615)
+    × (reading (version11File 150 0 71 1) table .answer ≡ refusal Refusal.badTilePointer 161)
+    × (decoding 8 file (x .table) 0 1 pixels marks
+    ≡ record { answer = record { number = 0; place = 0; marked = 0 }; pixels = 255 ∷ []; marks = 0 ∷ [] })
+    × (decoding 4 file (x .table) 0 1 pixels marks .answer ≡ record { number = Refusal.badTilePointer; place = 161; marked = 0 })

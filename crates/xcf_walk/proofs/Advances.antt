@@ -50,14 +50,14 @@ pub advances-word : Advances word
 unfolding word
 advances-word = advances-number 4 (omega arith)
 
-pub advances-property : (list : ℕ) → Advances (property list)
+pub advances-property : (size list : ℕ) → Advances (property size list)
 unfolding property
-advances-property list = advances-next here _ (straight-property list) λ start r. advances-first word _ r advances-word
+advances-property size list = advances-next here _ (straight-property size list) λ start r. advances-first word _ r advances-word
 
-pub advances-property-turn : (list : ℕ) (p : Properties) → Advances (propertyTurn list p)
+pub advances-property-turn : (size list : ℕ) (p : Properties) → Advances (propertyTurn size list p)
 unfolding propertyTurn
-advances-property-turn list p = advances-first (property list) _ (straight-property-turn list p) (advances-property list)
+advances-property-turn size list p = advances-first (property size list) _ (straight-property-turn size list p) (advances-property size list)
 
-pub advances-properties : (list unmapped : ℕ) → Advances (properties list unmapped)
+pub advances-properties : (size list unmapped : ℕ) → Advances (properties size list unmapped)
 unfolding properties
-advances-properties list unmapped = advances-loop _ _ (straight-properties list unmapped) (advances-property-turn list)
+advances-properties size list unmapped = advances-loop _ _ (straight-properties size list unmapped) (advances-property-turn size list)

@@ -12,6 +12,8 @@ use Rattle.xcf_numbers.specs.Refusal
 use Rattle.xcf_walk.specs.declared.cursor.Cursor.{Cursor}
 use Rattle.xcf_walk.specs.Walk.{Outcome, got, refused, Walk, done, _>>=_, run, bytes, here, fileLength, jump, must}
 use Rattle.xcf_store.specs.Word.{part}
+use Rattle.xcf_store.specs.Pointer.{numberAt}
+use Rattle.xcf_walk.specs.Fields.{number}
 use Rattle.xcf_walk.specs.Cursor.{live, checked, jumped, skipped, outcome, resume, Leads, Reads}
 use Rattle.xcf_walk.proofs.Walks.{after, after-cond, run-bind, run-here, run-length}
 
@@ -94,6 +96,11 @@ by-skip c {d} f n e = record { gives = ap (λ x. outcome x (part f (c .at) n)) e
     go true e true = refl
     go true e false = refl
     go false e t = rw e
+
+-- a number's bytes skipped are the number read
+pub by-number : {c d : Cursor} {f : List ℕ} (size : ℕ) → d ≡ skipped c f size → Leads c (number size) f d (numberAt size f (c .at))
+unfolding number
+by-number {c} {d} {f} size e = then _ (by-skip c f size e) ends
 
 -- bytes that were skipped lie in the file
 pub skip-fits : (c d : Cursor) (f : List ℕ) (n : ℕ) → d ≡ skipped c f n → d .number ≡ 0 → c .at + n ≤ length f

@@ -70,9 +70,9 @@ pub straight-word : Straight word
 unfolding word
 straight-word = straight-number 4
 
-pub straight-payload : (kind lengthAt n : ℕ) → Straight (payload kind lengthAt n)
+pub straight-payload : (size kind lengthAt n : ℕ) → Straight (payload size kind lengthAt n)
 unfolding payload
-straight-payload kind lengthAt n = search (straight-bind, straight-must, straight-bytes, straight-done)
+straight-payload size kind lengthAt n = search (straight-bind, straight-must, straight-bytes, straight-done)
 
 pub straight-colour-map : (lengthAt n : ℕ) → Straight (colourMap lengthAt n)
 unfolding colourMap
@@ -84,26 +84,26 @@ straight-cond : {A : Type 0} (b : Bool) {w v : Walk A} → Straight w → Straig
 straight-cond true x y = x
 straight-cond false x y = y
 
-pub straight-content : (list kind lengthAt n : ℕ) → Straight (content list kind lengthAt n)
+pub straight-content : (size list kind lengthAt n : ℕ) → Straight (content size list kind lengthAt n)
 unfolding content
-straight-content list kind lengthAt n =
-    straight-cond (isColourMap list kind) (straight-colour-map lengthAt n) (straight-payload kind lengthAt n)
+straight-content size list kind lengthAt n =
+    straight-cond (isColourMap list kind) (straight-colour-map lengthAt n) (straight-payload size kind lengthAt n)
 
-pub straight-property : (list : ℕ) → Straight (property list)
+pub straight-property : (size list : ℕ) → Straight (property size list)
 unfolding property
-straight-property list =
+straight-property size list =
     straight-bind _ straight-here λ start. straight-bind _ straight-word λ kind. straight-bind _ straight-here λ at. straight-bind _ straight-word λ n.
-    straight-bind _ straight-here λ place. straight-bind _ (straight-content list kind at n) λ c. straight-done
+    straight-bind _ straight-here λ place. straight-bind _ (straight-content size list kind at n) λ c. straight-done
 
-pub straight-property-turn : (list : ℕ) (p : Properties) → Straight (propertyTurn list p)
+pub straight-property-turn : (size list : ℕ) (p : Properties) → Straight (propertyTurn size list p)
 unfolding propertyTurn
-straight-property-turn list p =
-    straight-bind _ (straight-property list) λ x. straight-bind _ (straight-must _ _ _) λ _. straight-bind _ (straight-must _ _ _) λ _.
+straight-property-turn size list p =
+    straight-bind _ (straight-property size list) λ x. straight-bind _ (straight-must _ _ _) λ _. straight-bind _ (straight-must _ _ _) λ _.
     straight-bind _ (straight-must _ _ _) λ _. straight-done
 
-pub straight-properties : (list unmapped : ℕ) → Straight (properties list unmapped)
+pub straight-properties : (size list unmapped : ℕ) → Straight (properties size list unmapped)
 unfolding properties
-straight-properties list unmapped = straight-loop _ _ (straight-property-turn list)
+straight-properties size list unmapped = straight-loop _ _ (straight-property-turn size list)
 
 -- it goes forward, and not past the file's end
 pub straight-forward : {A : Type 0} {w : Walk A} (f : List ℕ) (at : ℕ) {a : A} {q : ℕ} → Straight w → got a q ≡ run w f at

@@ -19,7 +19,7 @@ use Rattle.xcf_walk.specs.Fields.{number}
 use Rattle.xcf_store.specs.Pointer.{numberAt}
 use Rattle.xcf_store.specs.Rising.{rises, rising}
 use Rattle.xcf_walk.specs.Cursor.{Leads, outcome, resume, checked, jumped, skipped}
-use Rattle.xcf_walk.proofs.Resume.{then, then-here, then-length, ends, by-check, by-skip, is-live, is-refused, live-same}
+use Rattle.xcf_walk.proofs.Resume.{then, then-here, then-length, ends, by-check, by-number, is-live, is-refused, live-same}
 use Rattle.xcf_walk.proofs.Within.{live-before, number-within, check-keeps}
 use Rattle.xcf_store.proofs.Risen.{Risen, risen}
 use Rattle.xcf_laws.proofs.Cases.{by-cases}
@@ -41,8 +41,8 @@ at-place p = record { at = p; number = 0 }
 
 -- a pointer that lies in the file
 number-there : (size : ℕ) (f : List ℕ) (at : ℕ) → at + size ≤ length f → Leads (at-place at) (number size) f (at-place (at + size)) (numberAt size f at)
-unfolding number skipped
-number-there size f at fits = then _ (by-skip (at-place at) f size (rw (le-leb _ _ fits))) ends
+unfolding skipped
+number-there size f at fits = by-number size (rw (le-leb _ _ fits))
 
 must-hold : {c : Cursor} {f : List ℕ} (t : Bool) (n p : ℕ) → t ≡ true → Leads c (must t n p) f c tt
 unfolding must

@@ -1,4 +1,5 @@
--- Property lists: type, length, payload, ended by type 0; one rule for the image's list, a layer's, a mask's and a channel's.
+-- Property lists: type, length, payload, ended by type 0; one rule for the image's list, a layer's, a mask's and a channel's. A pointer
+-- has `size` bytes.
 use Prim.Native.Nat.{ℕ, _*_}
 use mathlib.Core.Bool.{cond, not}
 use lib.Dec.{leb, eqb}
@@ -13,9 +14,9 @@ use Rattle.xcf_walk.specs.Fields.{word}
 use Rattle.xcf_property.specs.Property.{lengthOk, contentOf, isColourMap, mapLengthOk, isFloating, lacksMap, allowed, defaults, put}
 
 -- a payload whose length its type allows
-unfoldable pub payload : ℕ → ℕ → ℕ → Walk Content
-payload kind lengthAt n = do
-  must (lengthOk kind n) Refusal.badLength lengthAt
+unfoldable pub payload : ℕ → ℕ → ℕ → ℕ → Walk Content
+payload size kind lengthAt n = do
+  must (lengthOk size kind n) Refusal.badLength lengthAt
   b ← bytes n
   done (contentOf b)
 
@@ -30,28 +31,28 @@ colourMap lengthAt n = do
   bytes (3 * count)
   done (record { first = count; second = 0 })
 
-unfoldable pub content : ℕ → ℕ → ℕ → ℕ → Walk Content
-content list kind lengthAt n = cond (isColourMap list kind) (colourMap lengthAt n) (payload kind lengthAt n)
+unfoldable pub content : ℕ → ℕ → ℕ → ℕ → ℕ → Walk Content
+content size list kind lengthAt n = cond (isColourMap list kind) (colourMap lengthAt n) (payload size kind lengthAt n)
 
 -- a property: its type, the place of its type word, the place of its payload, what its length word says, and its content
-unfoldable pub property : ℕ → Walk Property
-property list = do
+unfoldable pub property : ℕ → ℕ → Walk Property
+property size list = do
   start ← here
   kind ← word
   lengthAt ← here
   n ← word
   place ← here
-  c ← content list kind lengthAt n
+  c ← content size list kind lengthAt n
   done (record { kind = kind; start = start; place = place; length = n; content = c })
 
 -- one property of a list; its content is tested once its payload is there
-unfoldable pub propertyTurn : ℕ → Properties → Walk (Turn Properties Properties)
-propertyTurn list p = do
-  x ← property list
+unfoldable pub propertyTurn : ℕ → ℕ → Properties → Walk (Turn Properties Properties)
+propertyTurn size list p = do
+  x ← property size list
   must (not (isFloating list (x .kind))) Refusal.floating (x .start)
   must (not (lacksMap (x .kind) p)) Refusal.badContent (x .start)
   must (allowed list (x .kind) (x .content .first)) Refusal.badContent (x .place)
   done (cond (eqb (x .kind) PropertyType.end) (last (put list (x .kind) (x .content) p)) (more (put list (x .kind) (x .content) p)))
 
-unfoldable pub properties : ℕ → ℕ → Walk Properties
-properties list unmapped = loop (propertyTurn list) (defaults list unmapped)
+unfoldable pub properties : ℕ → ℕ → ℕ → Walk Properties
+properties size list unmapped = loop (propertyTurn size list) (defaults list unmapped)

@@ -8,6 +8,7 @@ ghost use Rattle.xcf_store.specs.Pointer.{PointerSize};
 ghost use Rattle.xcf_walk.specs.Fields.{number, word, string};
 ghost use Rattle.xcf_walk.specs.Cursor.{live, checked, jumped, skipped, Reads, noName};
 use xcf_numbers::refusal;
+use xcf_store::pointer::number_at;
 use xcf_store::word::word_at;
 use xcf_utf8::well_formed;
 
@@ -19,6 +20,12 @@ pub struct Cursor {
 
 pub struct WordRead {
     pub value: u32,
+    pub cursor: Cursor,
+}
+
+// A number as wide as a place, as pointers are.
+pub struct NumberRead {
+    pub value: usize,
     pub cursor: Cursor,
 }
 
@@ -137,12 +144,22 @@ impl Cursor {
         }
     }
 
-    // A pointer of so many bytes.
-    pub fn pointer(self, file: &[u8], size: usize) -> WordRead
+    // A pointer of `size` bytes; beside a refusal it is 0.
+    pub fn pointer(self, file: &[u8], size: usize) -> NumberRead
         requires { ⌜ PointerSize size ⌝ }
         ensures { λ r. ⌜ Reads self (number size) (now (file .entry)) 0 (r .cursor) (r .value) ⌝ }
     {
-        self.word(file)
+        let next = self.skip(file, size);
+        if next.number != 0 {
+            return NumberRead {
+                value: 0,
+                cursor: next,
+            };
+        }
+        NumberRead {
+            value: number_at(file, self.at, size),
+            cursor: next,
+        }
     }
 
     pub fn string(self, file: &[u8]) -> NameRead

@@ -15,14 +15,14 @@ use xcf_store::rising::rising_pointers;
 
 // The pointers read, at the list's start, and zeros behind them; beside a refusal there are none. The longest list is the layers'.
 pub struct PointersRead {
-    pub list: [u32; LAYER_LIMIT as usize],
+    pub list: [usize; LAYER_LIMIT as usize],
     pub count: u32,
     pub cursor: Cursor,
 }
 
 // A pointer, and whether it is one of the list.
 struct PointerTurn {
-    value: u32,
+    value: usize,
     again: bool,
     cursor: Cursor,
 }
@@ -30,12 +30,12 @@ struct PointerTurn {
 // How many tile pointers are right, the last of them, and the cursor behind it.
 struct TilesRead {
     count: u32,
-    last: u32,
+    last: usize,
     cursor: Cursor,
 }
 
-// Whether the word p behind so many right pointers closes the pointers of n tiles.
-fn closes(count: u32, n: u32, p: u32) -> bool
+// Whether the pointer p behind so many right pointers closes the pointers of n tiles.
+fn closes(count: u32, n: u32, p: usize) -> bool
     ensures { λ r. ⌜ r ≡ (eqb count n && eqb p 0) ⌝ }
 {
     if count == n { p == 0 } else { false }
@@ -70,7 +70,7 @@ impl Cursor {
         ensures { λ r. ⌜ PointersGiven size most self (now (file .entry)) (r .cursor) (r .count) (r .list) ⌝ }
     {
         let mut read = PointersRead {
-            list: [0u32; LAYER_LIMIT as usize],
+            list: [0usize; LAYER_LIMIT as usize],
             count: 0,
             cursor: self,
         };
@@ -89,7 +89,7 @@ impl Cursor {
         }
         read.cursor = next;
         if next.number != 0 {
-            read.list = [0u32; LAYER_LIMIT as usize];
+            read.list = [0usize; LAYER_LIMIT as usize];
             read.count = 0;
             return read;
         }
@@ -119,7 +119,7 @@ impl Cursor {
         }
     }
 
-    // The pointers of n tiles and the closing word.
+    // The pointers of n tiles and the closing 0.
     pub fn tiles(self, file: &[u8], size: usize, n: u32) -> Cursor
         requires { ⌜ PointerSize size ⌝ }
         ensures { λ r. ⌜ Leads self (tiles size n 0) (now (file .entry)) r tt ⌝ }

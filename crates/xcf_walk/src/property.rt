@@ -1,4 +1,4 @@
-// Property lists: one reader and one loop for the image's, a layer's, a mask's and a channel's.
+// Property lists: one reader and one loop for the image's, a layer's, a mask's and a channel's. A pointer has `size` bytes.
 ghost use mathlib.Core.Path.{_≡_};
 ghost use Prim.Native.Nat.{_≤_, _<_};
 ghost use mathlib.Core.Bool.{true};
@@ -53,12 +53,12 @@ struct PropertyTurn {
 
 impl Cursor {
     // Here and below, at is the place of the length word.
-    fn payload(self, file: &[u8], kind: u32, at: usize, n: u32) -> ContentRead
-        ensures { λ r. ⌜ Reads self (payload kind at n) (now (file .entry)) noContent (r .cursor) (r .content) ⌝ }
+    fn payload(self, file: &[u8], size: usize, kind: u32, at: usize, n: u32) -> ContentRead
+        ensures { λ r. ⌜ Reads self (payload size kind at n) (now (file .entry)) noContent (r .cursor) (r .content) ⌝ }
     {
-        let right = self.check(length_ok(kind, n), refusal::BAD_LENGTH, at);
-        let size = n as usize;
-        let next = right.skip(file, size);
+        let right = self.check(length_ok(kind, n, size), refusal::BAD_LENGTH, at);
+        let length = n as usize;
+        let next = right.skip(file, length);
         if next.number != 0 {
             return ContentRead {
                 content: Content {
@@ -69,7 +69,7 @@ impl Cursor {
             };
         }
         ContentRead {
-            content: content_of(file, right.at, size),
+            content: content_of(file, right.at, length),
             cursor: next,
         }
     }
@@ -103,24 +103,32 @@ impl Cursor {
         }
     }
 
-    fn content(self, file: &[u8], list: u32, kind: u32, at: usize, n: u32) -> ContentRead
-        ensures { λ r. ⌜ Reads self (content list kind at n) (now (file .entry)) noContent (r .cursor) (r .content) ⌝ }
+    fn content(
+        self,
+        file: &[u8],
+        size: usize,
+        list: u32,
+        kind: u32,
+        at: usize,
+        n: u32,
+    ) -> ContentRead
+        ensures { λ r. ⌜ Reads self (content size list kind at n) (now (file .entry)) noContent (r .cursor) (r .content) ⌝ }
     {
         if is_colour_map(list, kind) {
             self.colour_map(file, at, n)
         } else {
-            self.payload(file, kind, at, n)
+            self.payload(file, size, kind, at, n)
         }
     }
 
     // Type, length and payload; the list says whose list it is.
-    pub fn property(self, file: &[u8], list: u32) -> PropertyRead
-        ensures { λ r. ⌜ Reads self (property list) (now (file .entry)) noProperty (r .cursor) (r .property) ⌝ }
+    pub fn property(self, file: &[u8], size: usize, list: u32) -> PropertyRead
+        ensures { λ r. ⌜ Reads self (property size list) (now (file .entry)) noProperty (r .cursor) (r .property) ⌝ }
     {
         let kind = self.word(file);
         let n = kind.cursor.word(file);
         let content = n.cursor
-            .content(file, list, kind.value, kind.cursor.at, n.value);
+            .content(file, size, list, kind.value, kind.cursor.at, n.value);
         let next = content.cursor;
         if next.number != 0 {
             return PropertyRead {
@@ -150,11 +158,11 @@ impl Cursor {
         }
     }
 
-    fn property_turn(self, file: &[u8], list: u32, p: Properties) -> PropertyTurn
-        ensures { λ r. ⌜ Leads self (propertyTurn list p) (now (file .entry)) (r .cursor) (turnOf (r .again) (r .properties)) ⌝ }
+    fn property_turn(self, file: &[u8], size: usize, list: u32, p: Properties) -> PropertyTurn
+        ensures { λ r. ⌜ Leads self (propertyTurn size list p) (now (file .entry)) (r .cursor) (turnOf (r .again) (r .properties)) ⌝ }
         ensures { λ r. ⌜ (r .again ≡ true → (self .at < r .cursor .at) × (r .cursor .at ≤ length (now (file .entry)))) ⌝ }
     {
-        let read = self.property(file, list);
+        let read = self.property(file, size, list);
         let x = read.property;
         let fixed = read.cursor
             .check(!is_floating(list, x.kind), refusal::FLOATING, x.start);
@@ -174,14 +182,14 @@ impl Cursor {
     }
 
     // A whole list; unmapped is 1 for an indexed image, whose list must hold a colour map.
-    pub fn properties(self, file: &[u8], list: u32, unmapped: u32) -> PropertiesRead
-        ensures { λ r. ⌜ Reads self (properties list unmapped) (now (file .entry)) noProperties (r .cursor) (r .properties) ⌝ }
+    pub fn properties(self, file: &[u8], size: usize, list: u32, unmapped: u32) -> PropertiesRead
+        ensures { λ r. ⌜ Reads self (properties size list unmapped) (now (file .entry)) noProperties (r .cursor) (r .properties) ⌝ }
     {
         let mut cursor = self;
         let mut p = Properties::defaults(list, unmapped);
         let mut again = true;
         while again {
-            let turn = cursor.property_turn(file, list, p);
+            let turn = cursor.property_turn(file, size, list, p);
             cursor = turn.cursor;
             p = turn.properties;
             again = turn.again;

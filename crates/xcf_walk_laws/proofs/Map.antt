@@ -43,7 +43,7 @@ length-least : (count n : ℕ) → MapLength count n → 4 ≤ n
 length-least count n (inl e) = omega (arith, e)
 length-least count n (inr e) = omega (arith, e)
 
-module _ (f : List ℕ) (lengthAt n at : ℕ) where
+module _ (size : ℕ) (f : List ℕ) (lengthAt n at : ℕ) where
   abbrev count : ℕ
   count = colours f at
 
@@ -59,7 +59,7 @@ module _ (f : List ℕ) (lengthAt n at : ℕ) where
       (refused Refusal.pastEnd at))
       (refused Refusal.badLength lengthAt)
 
-  map-run : run (content imageList PropertyType.colourMap lengthAt n) f at
+  map-run : run (content size imageList PropertyType.colourMap lengthAt n) f at
       ≡ decided (leb 4 n) (leb (at + 4) (length f)) (leb count colourLimit) (mapLengthOk count n) (leb (at + 4 + 3 * count) (length f))
   unfolding content isColourMap colourMap run here bytes number word
   map-run =
@@ -69,7 +69,7 @@ module _ (f : List ℕ) (lengthAt n at : ℕ) where
       ∙ ap (λ x. cond (leb count colourLimit) x (refused Refusal.badContent at)) (run-must (mapLengthOk count n) _ _ _ f (at + 4)))
 
   right : RightMap f n at
-      → run (content imageList PropertyType.colourMap lengthAt n) f at ≡ got (record { first = count; second = 0 }) (at + 4 + 3 * count)
+      → run (content size imageList PropertyType.colourMap lengthAt n) f at ≡ got (record { first = count; second = 0 }) (at + 4 + 3 * count)
   right m =
       map-run
       ∙ rw (
@@ -89,7 +89,7 @@ module _ (f : List ℕ) (lengthAt n at : ℕ) where
   decided-right true false few said whole e = absurd (got-not-refused (sym e))
   decided-right false there few said whole e = absurd (got-not-refused (sym e))
 
-  only-right : (c : Content) (q : ℕ) → run (content imageList PropertyType.colourMap lengthAt n) f at ≡ got c q → RightMap f n at
+  only-right : (c : Content) (q : ℕ) → run (content size imageList PropertyType.colourMap lengthAt n) f at ≡ got c q → RightMap f n at
   only-right c q e =
       let t = decided-right (leb 4 n) (leb (at + 4) (length f)) (leb count colourLimit) (mapLengthOk count n) _ (sym map-run ∙ e) in
       record { few = leb-true _ _ (t .0); said = length-said _ _ (t .1); whole = leb-true _ _ (t .2) }
@@ -101,7 +101,7 @@ module _ (f : List ℕ) (lengthAt n at : ℕ) where
       go true e = absurd (wrong (length-said count n e))
       go false e = e
 
-  pub map-rule : MapRule f lengthAt n at (run (content imageList PropertyType.colourMap lengthAt n) f at)
+  pub map-rule : MapRule f lengthAt n at (run (content size imageList PropertyType.colourMap lengthAt n) f at)
   map-rule = record {
     taken = right;
     only = only-right;

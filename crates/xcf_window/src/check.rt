@@ -13,7 +13,7 @@ use xcf_numbers::limit::SIDE_LIMIT;
 use xcf_numbers::limit::TABLE_SIZE;
 use xcf_numbers::refusal;
 use xcf_range::outside;
-use xcf_store::pointer::POINTER_SIZE;
+use xcf_store::pointer::pointer_size_ok;
 use xcf_table::Row;
 
 // Whether the row's sides, depth and kind are in range.
@@ -49,14 +49,13 @@ fn in_file(length: usize, row: Row, size: usize) -> bool
 fn usable(length: usize, row: Row, compression: u32, size: usize) -> bool
     ensures { λ r. ⌜ r ≡ decodableRow size length row compression ⌝ }
 {
-    if size != POINTER_SIZE {
-        return false;
-    }
     if 1 < compression {
         return false;
     }
-    if in_range(row) {
-        return in_file(length, row, size);
+    if pointer_size_ok(size) {
+        if in_range(row) {
+            return in_file(length, row, size);
+        }
     }
     false
 }

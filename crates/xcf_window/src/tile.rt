@@ -17,7 +17,7 @@ fn pointer_at(file: &[u8], row: Row, size: usize, t: u32) -> usize
     requires { ⌜ PointerSize size × (row .pointers + size * (t + 1) ≤ length (now file)) ⌝ }
     ensures { λ r. ⌜ r ≡ pointerAt size (now (file .entry)) row t ⌝ }
 {
-    number_at(file, row.pointers as usize + size * (t as usize), size) as usize
+    number_at(file, row.pointers as usize + size * (t as usize), size)
 }
 
 // Where the window of tile t ends, before it is cut.

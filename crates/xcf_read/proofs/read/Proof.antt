@@ -82,14 +82,17 @@ cast-t22 c = search needs
 cast-t23 : tie.Need-cast-t23
 cast-t23 c = search needs
 
+pointer-size-requires : tie.Need-pointer-size-requires
+pointer-size-requires c κs = search needs
+
 same-length-2 : tie.Need-same-length-2
 same-length-2 c = search needs
 
 returns-4 : tie.Need-returns-4
 returns-4 c =
-    let b = cleared c in
+    let b = cleared (c .before) in
     let i = walked (b .before .before .before) in
-    accepted _ (i .before .before .before .if1 .left) (i .before .before .if2 .left) (i .image .ensures .0) (i .image .ensures .1 .1) (b .before .before .if3 .left) (i .image .ensures .1 .0) (b .clear-from2 .ensures)
+    rw (c .pointer-size .ensures) (accepted _ (i .before .before .before .if1 .left) (i .before .before .if2 .left) (i .image .ensures .0) (i .image .ensures .1 .1) (b .before .before .if3 .left) (i .image .ensures .1 .0) (b .clear-from2 .ensures))
 
 pub read-spec : {M : Type 1} → statement M
 read-spec =
@@ -112,5 +115,6 @@ read-spec =
     cast-t21
     cast-t22
     cast-t23
+    pointer-size-requires
     same-length-2
     returns-4)

@@ -4,18 +4,17 @@ use mathlib.Core.Path.{_≡_, ap}
 use Prim.Native.Nat.{_-_}
 use native.Mathlib.Omega.{arith}
 use borrow.Author.Needs.{needs}
-use Rattle.xcf_store.specs.Pointer.{pointerSize}
 use Rattle.xcf_decode.specs.Answer.{counting}
 use Rattle.xcf_listing.proofs.RowLines.{RowsListed, rows-start, rows-room, rows-few, rows-turn, rows-whole, rows-length}
 use Rattle.xcf_listing.proofs.rows.put_rows.Statement.{statement}
 use Rattle.xcf_listing.proofs.rows.put_rows.Tie as tie
 
 abbrev Inv-loop : tie.InvT-loop
-Inv-loop file table compression rows text₀ at end₀ marked₀ k₀ text end marked k =
-    RowsListed file table compression rows text₀ at k end marked text
+Inv-loop file table compression size rows text₀ at end₀ marked₀ k₀ text end marked k =
+    RowsListed size file table compression rows text₀ at k end marked text
 
 abbrev μ-loop : tie.MeasureT-loop
-μ-loop file table compression rows text₀ at end₀ marked₀ k₀ text end marked k = rows - k
+μ-loop file table compression size rows text₀ at end₀ marked₀ k₀ text end marked k = rows - k
 
 -- from the row put to the turn's start, and from there to the function's
 abbrev turn : tie.After-put-row Inv-loop μ-loop → tie.In-loop Inv-loop μ-loop
@@ -26,11 +25,11 @@ begin c = c .before .before .before .before .before
 
 -- the row's marked tiles
 marked : (c : tie.After-count-marked Inv-loop μ-loop) → let s = begin (c .before) .args in
-    c .count-marked .result .marked ≡ counting pointerSize (s .file .now) (s .table .now) (c .before .before .loop .k) (s .compression) .marked
+    c .count-marked .result .marked ≡ counting (s .size) (s .file .now) (s .table .now) (c .before .before .loop .k) (s .compression) .marked
 marked c = ap (λ a. a .marked) (c .count-marked .ensures)
 
 loop-holds : tie.Need-loop-holds Inv-loop μ-loop
-loop-holds c = rows-start _ _ _ _ _ _
+loop-holds c = rows-start _ _ _ _ _ _ _
 
 count-marked-requires : tie.Need-count-marked-requires Inv-loop μ-loop
 count-marked-requires c κs = search needs

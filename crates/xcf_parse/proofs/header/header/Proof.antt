@@ -1,5 +1,5 @@
 -- `header` meets its contract: its two skips and two checks are the walk's do block step by step;
--- the tests are what `stands` and `version_at` promise.
+-- the tests are what `stands` and `tag_at` promise.
 use mathlib.Core.Path.{refl}
 use native.Mathlib.Omega.{arith}
 use borrow.Author.Needs.{needs}
@@ -23,21 +23,25 @@ check-requires c κs = search needs
 skip-requires-2 : tie.Need-skip-requires-2
 skip-requires-2 c κs = search needs
 
-version-at-requires : tie.Need-version-at-requires
-version-at-requires c κs = search needs
+tag-at-requires : tie.Need-tag-at-requires
+tag-at-requires c κs = search needs
 
 check-requires-2 : tie.Need-check-requires-2
 check-requires-2 c κs = search needs
 
+version-of-requires : tie.Need-version-of-requires
+version-of-requires c κs = search needs
+
 returns : tie.Need-returns
 unfolding header
 returns c =
-    let version = c .before .version-at .ensures in
-    let check = c .before .before .before in
+    let known = c .before in
+    let tag = known .before .tag-at .ensures in
+    let check = known .before .before .before in
     then-here _ _ (λ _. refl) (then _ (by-skip _ _ _ (check .before .before .before .skip .ensures))
     (then _ (by-check _ _ _ _ (omega arith) (check .before .stands .ensures) (check .check .ensures))
-    (then-here _ _ (λ _. refl) (then _ (by-skip _ _ _ (c .before .before .skip2 .ensures))
-    (then _ (by-check _ _ _ _ (omega arith) (rw version) (c .check2 .ensures)) (rw version ends))))))
+    (then-here _ _ (λ _. refl) (then _ (by-skip _ _ _ (known .before .before .skip2 .ensures))
+    (then _ (by-check _ _ _ _ (omega arith) (rw tag) (known .check2 .ensures)) (rw (← tag, c .version-of .ensures) ends))))))
 
 pub header-spec : {M : Type 1} → statement M
 header-spec =
@@ -48,6 +52,7 @@ header-spec =
     stands-requires
     check-requires
     skip-requires-2
-    version-at-requires
+    tag-at-requires
     check-requires-2
+    version-of-requires
     returns)

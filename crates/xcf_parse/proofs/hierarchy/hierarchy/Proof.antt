@@ -18,7 +18,7 @@ abbrev seventh : tie.After-tiles → tie.After-agrees5
 seventh c = c .before .before .before
 
 abbrev fourth : tie.After-agrees5 → tie.After-rest
-fourth c = c .before .before .before .before
+fourth c = c .before .before .before
 
 abbrev begin : tie.After-agrees5 → tie.Start
 begin c = fourth c .before .before .before .before .before .before
@@ -48,9 +48,6 @@ pointer-requires c κs = search needs
 
 rest-requires : tie.Need-rest-requires
 rest-requires c κs = search needs
-
-cast-jump : tie.Need-cast-jump
-cast-jump c = search needs
 
 jump-requires : tie.Need-jump-requires
 jump-requires c κs = search needs
@@ -94,7 +91,6 @@ hierarchy-spec =
     agrees-requires-3
     pointer-requires
     rest-requires
-    cast-jump
     jump-requires
     agrees-requires-4
     agrees-requires-5

@@ -1,5 +1,6 @@
 -- `rest` meets its contract: `Going` holds at the loop's head, and each number is a turn.
 use mathlib.Core.Bool.{not}
+use native.Mathlib.Omega.{arith}
 use borrow.Author.Needs.{needs}
 use lib.Dec.{eqb}
 use Rattle.xcf_store.proofs.Sizes.{some-bytes}
@@ -20,7 +21,7 @@ abbrev begin : tie.After-pointer Inv-loop μ-loop → tie.Start Inv-loop μ-loop
 begin c = c .before .before .before .before
 
 moves : (c : tie.After-pointer Inv-loop μ-loop) → Moves (begin c .args .file .now) (not (eqb (c .pointer .result .value) 0)) (c .before .before .loop .next) (c .pointer .result .cursor)
-moves c = rest-moves _ (c .pointer .ensures) (some-bytes (begin c .pre) .0)
+moves c = rest-moves _ (c .pointer .ensures) (omega (arith, some-bytes (begin c .pre) .0))
 
 loop-holds : tie.Need-loop-holds Inv-loop μ-loop
 loop-holds c = going-start

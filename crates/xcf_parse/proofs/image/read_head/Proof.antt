@@ -11,7 +11,7 @@ use Rattle.xcf_parse.proofs.image.read_head.Tie as tie
 
 -- from a place to the one before it that a need cites
 abbrev high : tie.After-properties → tie.After-side2
-high c = c .before .before .before
+high c = c .before .before .before .before .before
 
 abbrev begin : tie.After-side2 → tie.Start
 begin c = c .before .before .before .before .before
@@ -22,14 +22,16 @@ leads : (c : tie.After-properties) → let b = high c in
       version = b .before .before .header .result .version;
       width = b .before .side .result .value;
       height = b .side2 .result .value;
-      base = c .before .before .base-type .result .value;
+      base = c .before .before .before .before .base-type .result .value;
       compression = c .properties .result .properties .compression;
     })
 unfolding head
 leads c =
-    let b = c .before .before .before in
+    let size = c .before .before in
+    let b = size .before .before .before in
     then _ (rw (b .before .before .before .start .ensures) at (b .before .before .header .ensures)) (then _ (b .before .side .ensures .0) (then _ (b .side2 .ensures .0)
-    (then _ (c .before .before .base-type .ensures) (then _ (rw (c .before .unmapped .ensures) at (c .properties .ensures .leads)) ends))))
+    (then _ (size .before .before .base-type .ensures) (then _ (size .before .precision .ensures)
+    (then _ (rw (size .pointer-size .ensures, c .before .unmapped .ensures) at (c .properties .ensures .leads)) ends)))))
 
 start-requires : tie.Need-start-requires
 start-requires c κs = search needs
@@ -45,6 +47,12 @@ side-requires-2 c κs = search needs
 
 base-type-requires : tie.Need-base-type-requires
 base-type-requires c κs = search needs
+
+precision-requires : tie.Need-precision-requires
+precision-requires c κs = search needs
+
+pointer-size-requires : tie.Need-pointer-size-requires
+pointer-size-requires c κs = search needs
 
 unmapped-requires : tie.Need-unmapped-requires
 unmapped-requires c κs = search needs
@@ -70,6 +78,8 @@ read-head-spec =
     side-requires
     side-requires-2
     base-type-requires
+    precision-requires
+    pointer-size-requires
     unmapped-requires
     properties-requires
     returns

@@ -20,7 +20,7 @@ use Rattle.xcf_read.proofs.drawable.channel_rows.Tie as tie
 
 -- from the row put to the start
 abbrev begin : tie.After-put-row → tie.Start
-begin c = c .before .before .before .before .before .before .before .before .before .before
+begin c = c .before .before .before .before .before .before .before .before .before
 
 row-filled : {c d : Cursor} {w : Walk Rows} {f new : List ℕ} (t : List ℕ) (k : ℕ) (r : Row) → rowSize * (k + 1) ≤ length t → new ≡ putRow t k r
     → Leads c w f d (addRow (rowsIn k t) r) → Filled c w f t d (k + 1) new
@@ -28,9 +28,6 @@ row-filled t k r fits e l = record { leads = rw (e, put-adds t k r fits) l; size
 
 read-channel-requires : tie.Need-read-channel-requires
 read-channel-requires c κs = search needs
-
-cast-jump : tie.Need-cast-jump
-cast-jump c = search needs
 
 jump-requires : tie.Need-jump-requires
 jump-requires c κs = search needs
@@ -44,8 +41,8 @@ channel-row-requires c κs = search needs
 put-row-requires : tie.Need-put-row-requires
 put-row-requires c κs = search needs
 
-add-t17 : tie.Need-add-t17
-add-t17 c = omega (arith, begin (c .before .before .before) .pre .1 .0)
+add-t16 : tie.Need-add-t16
+add-t16 c = omega (arith, begin (c .before .before .before) .pre .1 .0)
 
 same-length : tie.Need-same-length
 same-length c = search needs
@@ -57,7 +54,7 @@ returns c =
     let row = put .before in
     let tiles = row .before .before in
     let down = tiles .before in
-    let x = down .before .before .before in
+    let x = down .before .before in
     let fits = begin put .pre .1 .1 in (
       row-filled _ _ _ fits (rw (row .channel-row .ensures) at (put .put-row .ensures))
           (then _ (x .read-channel .ensures .0 .leads) (then _ (by-jump _ _ (down .jump .ensures)) (then _ (tiles .hierarchy .ensures .0 .leads) ends))),
@@ -69,11 +66,10 @@ channel-rows-spec =
     tie.close
     (tie.spec
     read-channel-requires
-    cast-jump
     jump-requires
     hierarchy-requires
     channel-row-requires
     put-row-requires
-    add-t17
+    add-t16
     same-length
     returns)

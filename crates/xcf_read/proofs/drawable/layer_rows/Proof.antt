@@ -13,13 +13,10 @@ use Rattle.xcf_read.proofs.drawable.layer_rows.Tie as tie
 
 -- from the row put to the layer read
 abbrev layer : tie.After-put-row → tie.After-read-layer
-layer c = c .before .before .before .before .before .before .before .before .before
+layer c = c .before .before .before .before .before .before .before .before
 
 read-layer-requires : tie.Need-read-layer-requires
 read-layer-requires c κs = search needs
-
-cast-jump : tie.Need-cast-jump
-cast-jump c = search needs
 
 jump-requires : tie.Need-jump-requires
 jump-requires c κs = search needs
@@ -74,7 +71,6 @@ layer-rows-spec =
     tie.close
     (tie.spec
     read-layer-requires
-    cast-jump
     jump-requires
     depth-of-requires
     hierarchy-requires

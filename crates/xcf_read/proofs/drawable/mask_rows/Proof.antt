@@ -11,7 +11,7 @@ use Rattle.xcf_read.proofs.drawable.mask_rows.Tie as tie
 
 -- from the owner found to the start
 abbrev begin : tie.After-mask-owner → tie.Start
-begin c = c .before .before .before .before .before .before .before .before
+begin c = c .before .before .before .before .before .before .before
 
 add-t9 : tie.Need-add-t9
 add-t9 c = search needs
@@ -19,9 +19,6 @@ add-t9 c = search needs
 returns : tie.Need-returns
 unfolding maskRows
 returns c = (record { leads = rw (eq-eqb _ _ (c .if1 .taken)) ends; size = refl }, omega arith)
-
-cast-jump : tie.Need-cast-jump
-cast-jump c = search needs
 
 jump-requires : tie.Need-jump-requires
 jump-requires c κs = search needs
@@ -49,7 +46,7 @@ returns-2 c =
     let filled = rows .channel-rows .ensures in (
       record {
         leads =
-            rw (ne-eqb _ _ (aside .before .before .if1 .left))
+            rw (ne-eqb _ _ (aside .before .if1 .left))
             (then _ (by-jump _ _ (aside .jump .ensures)) (rw (rows .before .mask-owner .ensures) at (filled .0 .leads)));
         size = filled .0 .size;
       },
@@ -62,7 +59,6 @@ mask-rows-spec =
     (tie.spec
     add-t9
     returns
-    cast-jump
     jump-requires
     mask-owner-requires
     add-channel-rows

@@ -37,9 +37,6 @@ mul-jump c = search needs
 array-read-jump : tie.Need-array-read-jump Inv-loop μ-loop
 array-read-jump c = search needs
 
-cast-jump-2 : tie.Need-cast-jump-2 Inv-loop μ-loop
-cast-jump-2 c = search needs
-
 jump-requires : tie.Need-jump-requires Inv-loop μ-loop
 jump-requires c κs = search needs
 
@@ -78,7 +75,6 @@ drawables-spec =
     cast-jump
     mul-jump
     array-read-jump
-    cast-jump-2
     jump-requires
     drawable-requires
     add-i

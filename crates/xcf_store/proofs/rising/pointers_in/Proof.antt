@@ -4,7 +4,7 @@ use native.Mathlib.Nat.{mul-le-mul-left}
 use native.Mathlib.Omega.{arith}
 use borrow.Author.Needs.{needs}
 use lib.ListN.{length}
-use Rattle.xcf_store.proofs.Sizes.{whole-ones}
+use Rattle.xcf_store.proofs.Sizes.{some-bytes, whole-ones}
 use Rattle.xcf_store.proofs.rising.pointers_in.Statement.{statement}
 use Rattle.xcf_store.proofs.rising.pointers_in.Tie as tie
 
@@ -15,7 +15,7 @@ sub-whole : tie.Need-sub-whole
 sub-whole c = search needs
 
 div-whole : tie.Need-div-whole
-div-whole c = search needs
+div-whole c = omega (arith, some-bytes (c .before .pre) .0)
 
 cast-result : tie.Need-cast-result
 cast-result c = search needs

@@ -46,9 +46,6 @@ number-at-requires c κs = (c .before .before .before .before .pre, omega (arith
 returns : tie.Need-returns Inv-loop μ-loop
 returns c = going-falls (c .before .before .before .loop .inv .1) (rw (← c .before .number-at .ensures) (omega (arith, c .if1 .taken)))
 
-cast-if2 : tie.Need-cast-if2 Inv-loop μ-loop
-cast-if2 c = search needs
-
 returns-2 : tie.Need-returns-2 Inv-loop μ-loop
 returns-2 c = going-beyond (c .before .before .before .before .loop .inv .1) (rw (← c .before .before .number-at .ensures) (omega (arith, c .if2 .taken)))
 
@@ -83,7 +80,6 @@ rising-pointers-spec =
     add-number-at
     number-at-requires
     returns
-    cast-if2
     returns-2
     add-count
     loop-less

@@ -61,7 +61,7 @@ add-result-3 : tie.Need-add-result-3
 add-result-3 c = search needs
 
 returns : tie.Need-returns
-returns c = let s = begin c in omega (arith, big-endian-part (s .args .file .now) (s .args .at) (s .pre))
+returns c = let s = begin c in omega (arith, big-endian-part 0 (s .args .file .now) (s .args .at) (s .pre))
 
 pub word-at-spec : {M : Type 1} → statement M
 word-at-spec =

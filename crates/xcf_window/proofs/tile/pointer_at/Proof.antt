@@ -17,13 +17,10 @@ add-number-at c = omega (arith, c .before .before .pre .1)
 number-at-requires : tie.Need-number-at-requires
 number-at-requires c κs = (c .before .before .pre .0, omega (arith, c .before .before .pre .1))
 
-cast-result : tie.Need-cast-result
-cast-result c = search needs
-
 returns : tie.Need-returns
 unfolding pointerAt
 returns c = c .number-at .ensures
 
 pub pointer-at-spec : {M : Type 1} → statement M
 pointer-at-spec =
-    tie.close (tie.spec cast-number-at mul-number-at add-number-at number-at-requires cast-result returns)
+    tie.close (tie.spec cast-number-at mul-number-at add-number-at number-at-requires returns)

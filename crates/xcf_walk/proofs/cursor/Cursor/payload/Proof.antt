@@ -12,7 +12,7 @@ use Rattle.xcf_walk.proofs.cursor.Cursor.payload.Tie as tie
 
 leads : (c : tie.After-skip)
     → let a = c .before .before .before .before .args in
-    Leads (a .self) (payload (a .kind) (a .at) (a .n)) (a .file .now) (c .skip .result) (contentOf (part (a .file .now) (c .before .check .result .at) (a .n)))
+    Leads (a .self) (payload (a .size) (a .kind) (a .at) (a .n)) (a .file .now) (c .skip .result) (contentOf (part (a .file .now) (c .before .check .result .at) (a .n)))
 unfolding payload
 leads c =
     then _ (by-check _ _ _ _ (omega arith) (c .before .before .length-ok .ensures) (c .before .check .ensures)) (then _ (by-skip _ _ _ (c .skip .ensures)) ends)

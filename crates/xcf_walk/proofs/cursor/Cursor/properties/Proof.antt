@@ -7,10 +7,10 @@ use Rattle.xcf_walk.proofs.cursor.Cursor.properties.Statement.{statemen
 use Rattle.xcf_walk.proofs.cursor.Cursor.properties.Tie as tie
 
 abbrev Inv-loop : tie.InvT-loop
-Inv-loop file list unmapped cursor₀ p₀ again₀ cursor p again = Going (propertyTurn list) file cursor₀ p₀ again cursor p
+Inv-loop file size list unmapped cursor₀ p₀ again₀ cursor p again = Going (propertyTurn size list) file cursor₀ p₀ again cursor p
 
 abbrev μ-loop : tie.MeasureT-loop
-μ-loop file list unmapped cursor₀ p₀ again₀ cursor p again = bytesLeft file again cursor
+μ-loop file size list unmapped cursor₀ p₀ again₀ cursor p again = bytesLeft file again cursor
 
 -- from the loop's end to the values that it began with
 abbrev first : tie.After-struct-known Inv-loop μ-loop → tie.After-defaults Inv-loop μ-loop

@@ -17,7 +17,7 @@ leads : (c : tie.After-content)
     let kind = c .before .before .word .result in
     let n = c .before .word2 .result in
     let x = c .content .result in
-    Leads (a .self) (property (a .list)) (a .file .now) (x .cursor) (record {
+    Leads (a .self) (property (a .size) (a .list)) (a .file .now) (x .cursor) (record {
       kind = kind .value;
       start = a .self .at;
       place = n .cursor .at;
@@ -41,12 +41,12 @@ content-requires c κs = search needs
 returns : tie.Need-returns
 returns c = reads-none (c .if1 .taken) (leads (c .before .before .before))
 
-cast-t12 : tie.Need-cast-t12
-cast-t12 c = search needs
+cast-t13 : tie.Need-cast-t13
+cast-t13 c = search needs
 
 returns-2 : tie.Need-returns-2
 returns-2 c = reads-live (c .before .before .if1 .left) (leads (content c))
 
 pub property-spec : {M : Type 1} → statement M
 property-spec =
-    tie.close (tie.spec word-requires word-requires-2 content-requires returns cast-t12 returns-2)
+    tie.close (tie.spec word-requires word-requires-2 content-requires returns cast-t13 returns-2)

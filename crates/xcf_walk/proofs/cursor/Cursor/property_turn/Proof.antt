@@ -24,7 +24,7 @@ begin c = read c .before .before
 leads : (c : tie.After-put)
     → let third = c .before .before in
     let a = begin third .args in
-    Leads (a .self) (propertyTurn (a .list) (a .p)) (a .file .now) (third .check3 .result)
+    Leads (a .self) (propertyTurn (a .size) (a .list) (a .p)) (a .file .now) (third .check3 .result)
     (turnOf (not (eqb (read third .property .result .property .kind) 0)) (c .put .result))
 unfolding propertyTurn
 leads c =
@@ -61,7 +61,7 @@ put-requires : tie.Need-put-requires
 put-requires c κs = search needs
 
 returns : tie.Need-returns
-returns c = (leads (c .before), λ _. moves-on (advances-property-turn _ _) (leads (c .before)) (c .if1 .taken))
+returns c = (leads (c .before), λ _. moves-on (advances-property-turn _ _ _) (leads (c .before)) (c .if1 .taken))
 
 returns-2 : tie.Need-returns-2
 returns-2 c = (any-value _ (c .if1 .left) (leads (c .before)), λ e. absurd (c .if1 .left (eqb-true _ _ e)))

@@ -6,15 +6,15 @@ use mathlib.Core.List.{List}
 use borrow.Author.Needs.{needs}
 use Rattle.xcf_walk.specs.declared.cursor.Cursor.{Cursor}
 use Rattle.xcf_store.specs.Word.{part, bigEndian}
-use Rattle.xcf_walk.specs.Fields.{word, number}
+use Rattle.xcf_walk.specs.Fields.{word}
 use Rattle.xcf_walk.specs.Cursor.{Leads, skipped}
-use Rattle.xcf_walk.proofs.Resume.{then, ends, by-skip, skip-fits, reads-live, reads-none}
+use Rattle.xcf_walk.proofs.Resume.{by-number, skip-fits, reads-live, reads-none}
 use Rattle.xcf_walk.proofs.cursor.Cursor.word.Statement.{statement}
 use Rattle.xcf_walk.proofs.cursor.Cursor.word.Tie as tie
 
 leads : (c d : Cursor) (f : List ℕ) → d ≡ skipped c f 4 → Leads c word f d (bigEndian 0 (part f (c .at) 4))
-unfolding word number
-leads c d f e = then _ (by-skip c f 4 e) ends
+unfolding word
+leads c d f e = by-number 4 e
 
 skip-requires : tie.Need-skip-requires
 skip-requires c κs = search needs
