@@ -1,5 +1,5 @@
 -- `number_at` meets its contract: a pointer of four bytes is a word, and one of eight is two (`two-words`).
-use mathlib.Core.Path.{_≡_, sym}
+use mathlib.Core.Path.{_≡_}
 use mathlib.Core.Logic.{⊎-elim}
 use native.Mathlib.Omega.{arith}
 use borrow.Author.Needs.{needs}
@@ -41,8 +41,7 @@ returns-2 : tie.Need-returns-2
 returns-2 c =
     let s = c .before .before .before .before in
     let size = all-eight (c .before) in
-    rw (size, c .before .before .word-at .ensures, c .word-at2 .ensures)
-    (sym (two-words (s .args .file .now) (s .args .at) (omega (arith, size, s .pre .1))))
+    rw size (omega (arith, c .before .before .word-at .ensures, c .word-at2 .ensures, two-words (s .args .file .now) (s .args .at) (omega (arith, size, s .pre .1))))
 
 pub number-at-spec : {M : Type 1} → statement M
 number-at-spec =
