@@ -6,19 +6,23 @@
  * Refusals. number is 0 where the call did its work, and otherwise says why not; place then counts the file's bytes from 0,
  * unless the table below has something else. All fields but these two are 0, and every buffer is as it was lent, but for the
  * table of xcf_read (see there). Each call names its refusals in the order in which they are tested, an 11 with the buffer it
- * is about; the first that applies is answered. A table of any length but XCF_TABLE_LENGTH is an 11. A word is 4 bytes of the
- * file, the high one first.
+ * is about; the first that applies is answered. A table of any length but XCF_TABLE_LENGTH is an 11.
+ *
+ * A word is 4 bytes of the file, the high one first. A pointer in the file is a word in versions 0 to 3; in version 11 it has
+ * 8 bytes, the high one first, and so has the 0 that ends a list of pointers. One that leads past the file's end is a 1 at its
+ * value, which may be any number of 64 bits, unless it is a tile's: then it is a 13.
  *
  *   No.  Why                                                              Place
  *    1   the file ends before a field, string or payload does             where that begins
  *    2   the file does not begin with "gimp xcf "                         0
  *    3   the version in bytes 9 to 13 is none of the tags file, v001,     9
- *        v002 and v003, followed by a zero byte
+ *        v002, v003 and v011, followed by a zero byte
  *    4   a side is not 1 to 16,384                                        its word; xcf_write: 14 width, 18 height
  *    5   the base type exceeds 2, or is 2 in version 0;                   its word
  *        xcf_write: it exceeds 1                                          22
  *    6   the length of a property does not fit its type; that of a        the length word
- *        colour map of n colours is 3n + 4, or n + 4 in old files
+ *        colour map of n colours is 3n + 4, or n + 4 in old files, that
+ *        of a floating selection 4, and in version 11 also 8
  *    7   a payload has a value that is not allowed;                       the payload's first byte
  *        an indexed image has no colour map                               the type word that ends the image's list
  *    8   there are more than 48 layers or 32 channels                     the first pointer too many
@@ -28,14 +32,15 @@
  *        a size or depth in a hierarchy or level is not its drawable's
  *   11   the length of a buffer does not fit                              0
  *   12   a string of length 1 or more has a last byte other than zero     its length word
- *   13   a tile pointer is 0, not above the one before it or not below    that word
- *        the length of the file; the word behind the last is not 0
- *   14   the row, tile or compression cannot be decoded or encoded        0
+ *   13   a tile pointer is 0, not above the one before it or not below    that pointer
+ *        the length of the file; the pointer behind the last is not 0
+ *   14   the row, tile, compression or size of pointers cannot be used    0
  *   15   the file is longer than XCF_FILE_LIMIT                           0
  *   16   a layer has the property of a floating selection                 that property's type word
  *   17   a row cannot be written                                          the number of the row
  *   18   the output is too short, or a file to be written would be        0
  *        longer than XCF_FILE_LIMIT
+ *   25   the precision, in version 11, is not 150: 8-bit gamma            its word: 26
  */
 #ifndef XCF_H
 #define XCF_H
@@ -91,9 +96,10 @@ xcf_encode_answer xcf_encode_tile(const uint8_t *pixels, size_t pixels_length, u
 
 /* width, height  of the canvas
  * base           0 RGB, 1 greyscale, 2 indexed
- * version        0 to 3
+ * version        0 to 3, or 11
  * compression    of the tiles: 0 plain, 1 run-length encoded
- * rows           how many rows of the table are used */
+ * rows           how many rows of the table are used
+ * pointer_size   bytes of a pointer: 4 in versions 0 to 3, 8 in version 11 */
 typedef struct {
     uint64_t number;
     uint64_t place;
@@ -103,6 +109,7 @@ typedef struct {
     uint64_t version;
     uint64_t compression;
     uint64_t rows;
+    uint64_t pointer_size;
 } xcf_read_answer;
 
 /* Reads a file into a table. Its rows are, from row 0 on, the layers in the order of the file, each with its mask, if it has
@@ -125,8 +132,8 @@ typedef struct {
  *   14      mode; masks and channels have 0
  *   15      number of this row, or for a mask that of its layer
  *
- * Refused: 11 table and 15, which leave the table as lent; then the file's first fault, a 1 to 10, 12, 13 or 16, which sets
- * the whole table to zero. */
+ * Refused: 11 table and 15, which leave the table as lent; then the file's first fault, a 1 to 10, 12, 13, 16 or 25, which
+ * sets the whole table to zero. */
 xcf_read_answer xcf_read(const uint8_t *file, size_t file_length, uint32_t *table, size_t table_length);
 
 /* number, place  of the call's own refusal: only ever an 11 at 0, and then all else is 0
@@ -157,30 +164,31 @@ typedef struct {
     uint64_t marked;
 } xcf_decode_answer;
 
-/* Decodes the drawable of a row. table and compression are those that xcf_read gave for this file; neither is trusted.
+/* Decodes the drawable of a row. table, compression and pointer_size are those that xcf_read gave for this file; none is
+ * trusted.
  *
  *   pixels  exactly width * height * depth bytes of the row: lines from the top, each from the left, depth bytes for a pixel
  *   marks   exactly a byte for each tile (field 9), its mark as in xcf_tile_answer. Tiles have sides of 64, in the last
  *           column and line what is left, and are numbered line by line from the top, in each from the left
  *
  * Every byte of both is set, whatever it held; where a tile is marked, its pixels are set to zero.
- * Where xcf_read gave table and compression for the file, a good tile depends only on the file's length, on the bytes that
- * xcf_read passes over and on those that the tile consumed: another file of that length that has these is read the same and
- * shows the same tile, whatever its other bytes are.
+ * Where xcf_read gave table, compression and pointer_size for the file, a good tile depends only on the file's length, on the
+ * bytes that xcf_read passes over and on those that the tile consumed: another file of that length that has these is read the
+ * same and shows the same tile, whatever its other bytes are.
  * Refused: 11 table; 15; 14 unless
  *   - row is below 128 and its kind is 1 to 3,
  *   - its sides are 1 to 16,384 and its depth is 1 to 4,
  *   - field 9 is the number of tiles of these sides,
- *   - field 8 + 4 * (field 9 + 1) is at most file_length: the tile pointers and the word behind them are in the file,
- *   - compression is 0 or 1;
- * 11 pixels or marks; 13, at the first of these words that is wrong. */
+ *   - compression is 0 or 1, and pointer_size 4 or 8,
+ *   - field 8 + pointer_size * (field 9 + 1) is at most file_length: the file has the tile pointers and the one behind them;
+ * 11 pixels or marks; 13, at the first of these pointers that is wrong. */
 xcf_decode_answer xcf_decode(const uint8_t *file, size_t file_length, const uint32_t *table, size_t table_length, uint32_t row,
-                             uint32_t compression, uint8_t *pixels, size_t pixels_length, uint8_t *marks,
-                             size_t marks_length);
+                             uint32_t compression, uint32_t pointer_size, uint8_t *pixels, size_t pixels_length,
+                             uint8_t *marks, size_t marks_length);
 
 /* Counts the marked tiles of a row: the answer that xcf_decode gives where pixels and marks have the right lengths. */
 xcf_decode_answer xcf_count_marked(const uint8_t *file, size_t file_length, const uint32_t *table, size_t table_length,
-                                   uint32_t row, uint32_t compression);
+                                   uint32_t row, uint32_t compression, uint32_t pointer_size);
 
 typedef struct {
     uint64_t number;
@@ -208,7 +216,8 @@ typedef struct {
  * other rows are zero; a table of zeros only is right, too.
  *
  * xcf_read accepts the file and gives the same canvas and base, compression 1, version 2 where a mode is above 18 and 0
- * elsewhere, and the same rows, but with places of the file in fields 5, 7 and 8. Names and pixels come back as they were.
+ * elsewhere, pointers of 4 bytes, and the same rows, but with places of the file in fields 5, 7 and 8. Names and pixels come
+ * back as they were.
  * Refused: 11 table; 4 for width, then for height; 5; 17 for the first row that is not usable; 11 unless pixels_length is the
  * sum over all used rows; 18. */
 xcf_write_answer xcf_write(uint32_t width, uint32_t height, uint32_t base, const uint32_t *table, size_t table_length,

@@ -1,8 +1,8 @@
 //! The help texts.
 
 pub const OVERVIEW: &str = "\
-xcf: GIMP's XCF files, versions 0 to 3, by a proved library. A damaged tile is
-marked, and its pixels are zero.
+xcf: GIMP's XCF files, versions 0 to 3 and 11, by a proved library. A damaged
+tile is marked, and its pixels are zero.
 
 usage: xcf COMMAND ...
   xcf list FILE...             the listing: a line of numbers for each row

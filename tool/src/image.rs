@@ -70,8 +70,9 @@ impl Image {
 
     /// How many tiles of a row are marked.
     pub fn count_marked(&self, number: u32) -> Result<u64, Fault> {
-        let compression = self.answer.compression as u32;
-        let answer = library::count_marked(&self.file, &self.table, number, compression);
+        let (compression, pointer_size) = self.told();
+        let (file, table) = (&self.file, &self.table);
+        let answer = library::count_marked(file, table, number, compression, pointer_size);
         self.decoded(answer)
     }
 
@@ -79,11 +80,13 @@ impl Image {
         let row = self.row(number);
         let mut pixels = zeros(row.pixels_length())?;
         let mut marks = zeros(row[field::TILES] as usize)?;
+        let (compression, pointer_size) = self.told();
         let answer = library::decode(
             &self.file,
             &self.table,
             number,
-            self.answer.compression as u32,
+            compression,
+            pointer_size,
             &mut pixels,
             &mut marks,
         );
@@ -93,6 +96,17 @@ impl Image {
             marks,
             marked,
         })
+    }
+
+    /// What the reader answered that the decoder is told: the compression and
+    /// the size of pointers.
+    fn told(&self) -> (u32, u32) {
+        let ReadAnswer {
+            compression,
+            pointer_size,
+            ..
+        } = self.answer;
+        (compression as u32, pointer_size as u32)
     }
 
     /// How many tiles are marked, unless the row is refused.

@@ -56,7 +56,9 @@ answers! {
     /// The answer to encoding a tile, or to writing a file.
     WriteAnswer = "xcf_encode_answer" | "xcf_write_answer" { number, place, length }
     /// The answer to reading a file.
-    ReadAnswer = "xcf_read_answer" { number, place, width, height, base, version, compression, rows }
+    ReadAnswer = "xcf_read_answer" {
+        number, place, width, height, base, version, compression, rows, pointer_size
+    }
     /// The answer to decoding a drawable, or to counting its marked tiles.
     DecodeAnswer = "xcf_decode_answer" { number, place, marked }
     /// The answer to listing a file.
@@ -108,6 +110,7 @@ unsafe extern "C" {
         table_length: usize,
         row: u32,
         compression: u32,
+        pointer_size: u32,
         pixels: *mut u8,
         pixels_length: usize,
         marks: *mut u8,
@@ -121,6 +124,7 @@ unsafe extern "C" {
         table_length: usize,
         row: u32,
         compression: u32,
+        pointer_size: u32,
     ) -> DecodeAnswer;
 
     fn xcf_write(
@@ -215,6 +219,7 @@ pub fn decode(
     table: &[u32],
     row: u32,
     compression: u32,
+    pointer_size: u32,
     pixels: &mut [u8],
     marks: &mut [u8],
 ) -> DecodeAnswer {
@@ -228,6 +233,7 @@ pub fn decode(
             table.len(),
             row,
             compression,
+            pointer_size,
             pixels.as_mut_ptr(),
             pixels.len(),
             marks.as_mut_ptr(),
@@ -237,7 +243,13 @@ pub fn decode(
 }
 
 /// Counts the marked tiles of the drawable of a row.
-pub fn count_marked(file: &[u8], table: &[u32], row: u32, compression: u32) -> DecodeAnswer {
+pub fn count_marked(
+    file: &[u8],
+    table: &[u32],
+    row: u32,
+    compression: u32,
+    pointer_size: u32,
+) -> DecodeAnswer {
     // SAFETY: both slices are valid for their lengths during the call.
     unsafe {
         xcf_count_marked(
@@ -247,6 +259,7 @@ pub fn count_marked(file: &[u8], table: &[u32], row: u32, compression: u32) -> D
             table.len(),
             row,
             compression,
+            pointer_size,
         )
     }
 }

@@ -32,7 +32,7 @@ fn meaning(number: u64) -> &'static str {
         1 => "the file ends before the field or data at this place is complete",
         2 => "the file does not begin with \"gimp xcf \"",
         3 => {
-            "bytes 9 to 13 are no version tag: \"file\", \"v001\", \"v002\" or \"v003\", then a zero byte"
+            "bytes 9 to 13 are no tag of a version that is read (0 to 3 and 11): \"file\", \"v001\", \"v002\", \"v003\" or \"v011\", then a zero byte"
         }
         4 => "a width or height is outside the range 1 to 16,384",
         5 => "the base type is none of 0 (RGB), 1 (greyscale) and, from version 1 on, 2 (indexed)",
@@ -48,11 +48,16 @@ fn meaning(number: u64) -> &'static str {
         13 => {
             "a tile pointer is 0, not above the one before it or outside the file, or no 0 ends their list"
         }
-        14 => "there is no such row, or the row, tile or compression cannot be used",
+        14 => {
+            "there is no such row, or the row, tile, compression or size of pointers cannot be used"
+        }
         15 => "the file is longer than 1,073,741,824 bytes",
         16 => "a layer is a floating selection, which cannot be read",
         17 => "a row cannot be written as it is given",
         18 => "what is to be written is longer than the output lent for it, or than a file may be",
+        25 => {
+            "the image is stored in another precision than 8-bit gamma (150), which alone is read"
+        }
         _ => "a number that is not listed",
     }
 }

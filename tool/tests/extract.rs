@@ -9,8 +9,7 @@ use common::folder::answer;
 use common::refusals::refused_files;
 use common::{Folder, Pam, not_here};
 
-const UNUSABLE: &str =
-    "refused 14 at 0: there is no such row, or the row, tile or compression cannot be used";
+const UNUSABLE: &str = "refused 14 at 0: there is no such row, or the row, tile, compression or size of pointers cannot be used";
 
 #[test]
 fn the_example_is_extracted() {

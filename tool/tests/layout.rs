@@ -77,8 +77,12 @@ fn another_layout_is_refused() {
             "xcf_list_answer, refused) == 8",
         ),
         (
+            "sizeof(xcf_read_answer) == 72",
             "sizeof(xcf_read_answer) == 64",
-            "sizeof(xcf_read_answer) == 56",
+        ),
+        (
+            "xcf_read_answer, pointer_size) == 64",
+            "xcf_read_answer, pointer_size) == 56",
         ),
         ("XCF_TEXT_LENGTH == 65536", "XCF_TEXT_LENGTH == 65535"),
     ] {

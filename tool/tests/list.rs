@@ -2,14 +2,21 @@
 
 mod common;
 
-use common::files::{EXAMPLE_LISTING, altered, empty, example};
+use common::files::{EXAMPLE_LISTING, altered, empty, example, wide};
 use common::refusals::refused_files;
 use common::{Folder, Pam};
 
-/// Where the fields begin that the walk over the example reads.
+/// Where the fields begin that the walk over the example reads, up to the tile's
+/// pointer.
 const FIELDS: [usize; 34] = [
     0, 9, 14, 18, 22, 26, 30, 34, 35, 39, 43, 47, 51, 55, 59, 63, 67, 69, 73, 77, 81, 85, 89, 93,
     97, 101, 105, 109, 113, 117, 121, 125, 129, 133,
+];
+
+/// The same in version 11.
+const WIDE_FIELDS: [usize; 35] = [
+    0, 9, 14, 18, 22, 26, 30, 34, 38, 39, 43, 47, 55, 63, 71, 75, 79, 83, 85, 89, 93, 97, 101, 105,
+    109, 113, 117, 125, 129, 133, 137, 145, 153, 157, 161,
 ];
 
 #[test]
@@ -75,26 +82,34 @@ fn a_name_above_a_listing_is_one_line() {
 
 #[test]
 fn every_cut_of_the_example_is_refused_at_its_place() {
+    cuts_are_refused(&example(), &FIELDS, 137);
+    cuts_are_refused(&wide(), &WIDE_FIELDS, 169);
+}
+
+/// Cuts a file everywhere before its tile, whose pointer ends at a place.
+#[track_caller]
+fn cuts_are_refused(file: &[u8], fields: &[usize], pointer_end: usize) {
     let folder = Folder::new();
     let mut listings = String::new();
-    for length in 0..=141 {
+    let (last, lengths) = (fields[fields.len() - 1], 0..=file.len() - 2);
+    for length in lengths.clone() {
         let name = format!("cut-{length}.xcf");
-        folder.put(&name, &example()[..length]);
-        let refusal = match length {
+        folder.put(&name, &file[..length]);
+        let refusal = match length < pointer_end {
+            true => format!("1 at {}", field_at(fields, length)),
             // The tile's pointer is there, and leads past the end.
-            137.. => "13 at 133".to_string(),
-            _ => format!("1 at {}", field_at(length)),
+            false => format!("13 at {last}"),
         };
         listings += &format!("{name}:\nrefused {refusal}\n");
     }
-    let names = (0..=141).map(|length| format!("cut-{length}.xcf"));
+    let names = lengths.map(|length| format!("cut-{length}.xcf"));
     let listed = folder.run(["list".to_string()].into_iter().chain(names));
     listed.is(1, &listings, "");
 }
 
 /// The start of the field that has the byte.
-fn field_at(byte: usize) -> usize {
-    let before = FIELDS.iter().filter(|start| **start <= byte);
+fn field_at(fields: &[usize], byte: usize) -> usize {
+    let before = fields.iter().filter(|start| **start <= byte);
     *before.max().expect("the first is 0")
 }
 

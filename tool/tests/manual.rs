@@ -79,7 +79,7 @@ fn the_page_has_the_usage_of_every_command() {
 fn the_page_has_the_sentence_of_every_number() {
     let Some(page) = page() else { return };
     let numbers = section(&page, "NUMBERS", "MESSAGES");
-    for number in 1..=18 {
+    for number in (1..=18).chain([25]) {
         let refusal = Refusal { number, place: 0 }.to_string();
         let (_, sentence) = refusal.split_once(": ").expect("a colon");
         let line = format!("{number} {sentence}");

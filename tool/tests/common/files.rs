@@ -27,8 +27,38 @@ canvas 1 1 base 1 version 0 compression 1 rows 1
 
 /// The example with a byte changed.
 pub fn altered(place: usize, byte: u8) -> Vec<u8> {
-    let mut file = example();
-    file[place] = byte;
+    changed(example(), place, &[byte])
+}
+
+/// The example in version 11, of 179 bytes: its precision is at 26, and its
+/// pointers have 8 bytes.
+pub fn wide() -> Vec<u8> {
+    let mut file = b"gimp xcf v011\0".to_vec();
+    file.extend(words(&[1, 1, 1, 150, 17, 1]));
+    file.push(1);
+    file.extend(words(&[0, 0]));
+    file.extend(pointers(&[0, 71, 0]));
+    file.extend(words(&[1, 1, 2]));
+    file.extend(b"s\0");
+    file.extend(words(&[6, 4, 255, 8, 4, 1, 0, 0]));
+    file.extend(pointers(&[125]));
+    file.extend(words(&[1, 1, 1]));
+    file.extend(pointers(&[153, 0]));
+    file.extend(words(&[1, 1]));
+    file.extend(pointers(&[177, 0]));
+    file.extend([0xFF, 0xFF]);
+    file
+}
+
+/// The listing of the example in version 11.
+pub const WIDE_LISTING: &str = "\
+canvas 1 1 base 1 version 11 compression 1 rows 1
+0 channel 1 1 1 2 83 1 85 161 1 255 1 0 0 0 0 bad 0
+";
+
+/// The file with other bytes from a place on.
+pub fn changed(mut file: Vec<u8>, place: usize, bytes: &[u8]) -> Vec<u8> {
+    file[place..][..bytes.len()].copy_from_slice(bytes);
     file
 }
 
@@ -95,6 +125,12 @@ pub fn laborious(layers: usize) -> Vec<u8> {
 /// Words of 32 bits, high byte first.
 pub fn words(words: &[u32]) -> Vec<u8> {
     words.iter().flat_map(|word| word.to_be_bytes()).collect()
+}
+
+/// Pointers of version 11: numbers of 64 bits, high byte first.
+pub fn pointers(pointers: &[u64]) -> Vec<u8> {
+    let bytes = pointers.iter().flat_map(|pointer| pointer.to_be_bytes());
+    bytes.collect()
 }
 
 /// Overwrites a word.

@@ -1,6 +1,8 @@
 //! A refused file for each number that a short file can be refused with.
 
-use super::files::{INDEXED, altered, example, indexed, put_word, with_49_layers};
+use super::files::{
+    INDEXED, altered, changed, example, indexed, pointers, put_word, wide, with_49_layers, words,
+};
 
 /// Places in the example, a byte that makes it a refused file there, and what
 /// `xcf check` says of that file behind its name.
@@ -18,7 +20,7 @@ const ALTERED: [(usize, u8, &str); 13] = [
     (
         10,
         b'4',
-        "refused 3 at 9: bytes 9 to 13 are no version tag: \"file\", \"v001\", \"v002\" or \"v003\", then a zero byte",
+        "refused 3 at 9: bytes 9 to 13 are no tag of a version that is read (0 to 3 and 11): \"file\", \"v001\", \"v002\", \"v003\" or \"v011\", then a zero byte",
     ),
     (
         17,
@@ -96,7 +98,37 @@ pub fn refused_files() -> Vec<(Vec<u8>, &'static str)> {
             "refused 16 at 101: a layer is a floating selection, which cannot be read",
         ),
     ]);
+    files.extend(refused_of_version_11());
     files
+}
+
+/// The example in version 11 with a word or a pointer changed. No pointer is
+/// cut to 32 bits: one of 2^32 is not 0, and one past the end is its own place.
+fn refused_of_version_11() -> [(Vec<u8>, &'static str); 5] {
+    let with_word = |place, word| changed(wide(), place, &words(&[word]));
+    let with_pointer = |place, pointer| changed(wide(), place, &pointers(&[pointer]));
+    [
+        (
+            with_word(26, 250),
+            "refused 25 at 26: the image is stored in another precision than 8-bit gamma (150), which alone is read",
+        ),
+        (
+            with_pointer(55, u64::MAX),
+            "refused 1 at 18446744073709551615: the file ends before the field or data at this place is complete",
+        ),
+        (
+            with_pointer(117, 1 << 32),
+            "refused 1 at 4294967296: the file ends before the field or data at this place is complete",
+        ),
+        (
+            with_pointer(117, 0),
+            "refused 9 at 117: the pointer to a hierarchy, or to its first level, is 0",
+        ),
+        (
+            with_pointer(161, (1 << 32) + 177),
+            "refused 13 at 161: a tile pointer is 0, not above the one before it or outside the file, or no 0 ends their list",
+        ),
+    ]
 }
 
 /// Its layer's second property says that it is a floating selection.
