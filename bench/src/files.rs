@@ -110,7 +110,7 @@ pub fn one_layer(side: u32, depth: u32, tiles: Vec<Vec<u8>>) -> Vec<u8> {
 fn image(sides: [u32; 2], base: u32) -> ImageFields {
     let resolution = [0x42, 0x90, 0, 0, 0x42, 0x90, 0, 0];
     ImageFields {
-        tag: b"file\0",
+        version: 0,
         sides,
         base,
         list: [
