@@ -1,6 +1,6 @@
 //! Random files for comparing the reference reader with the library.
 
-pub(crate) mod block;
+pub mod block;
 mod builder;
 mod damage;
 pub(crate) mod drawable;

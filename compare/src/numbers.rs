@@ -19,7 +19,16 @@ pub fn pointer_above(random: &mut Random, limit: u32, right: u64, size: usize) -
     }
     let last = u64::MAX - random.below(17) as u64;
     let any = (random.between(1, u32::MAX as usize) as u64) << 32 | random.word() >> 32;
-    random.pick(&[low, low, 1 << 32 | right, 1 << 32 | low, 1 << 32, 1 << 63 | right, last, any])
+    random.pick(&[
+        low,
+        low,
+        1 << 32 | right,
+        1 << 32 | low,
+        1 << 32,
+        1 << 63 | right,
+        last,
+        any,
+    ])
 }
 
 /// A number other than `old`: a neighbour, one that differs in a byte, or any.

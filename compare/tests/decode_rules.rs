@@ -4,7 +4,8 @@
 use xcf_compare::answer::{
     CountMarked, DecodeAnswer, DecodeDrawable, FILE_LIMIT, Row, TABLE_LENGTH, WINDOW_LIMIT,
 };
-use xcf_compare::files::laid::{with, words};
+use xcf_compare::files::block::set_number;
+use xcf_compare::files::laid::{version_11, with, words};
 use xcf_compare::files::{EXAMPLE, table_of};
 use xcf_compare::implementation::ALL;
 use xcf_compare::{decode, library};
@@ -17,6 +18,9 @@ const FILLING: u8 = 0xA5;
 /// The row of the example's channel.
 const CHANNEL: Row = [3, 1, 1, 1, 2, 67, 1, 69, 133, 1, 255, 1, 0, 0, 0, 0];
 
+/// The same row in version 11.
+const LONG_CHANNEL: Row = [3, 1, 1, 1, 2, 83, 1, 85, 161, 1, 255, 1, 0, 0, 0, 0];
+
 /// The numbers of a call, and how many bytes it is lent.
 #[derive(Clone)]
 struct Call {
@@ -24,18 +28,20 @@ struct Call {
     table: Vec<u32>,
     row: u32,
     compression: u32,
+    pointer_size: u32,
     pixels: usize,
     marks: usize,
 }
 
 impl Call {
-    /// A call for the first row.
+    /// A call for the first row, with pointers of 4 bytes.
     fn new(file: &[u8], row: Row, compression: u32) -> Self {
         Call {
             file: file.to_vec(),
             table: table_of(&[row]),
             row: 0,
             compression,
+            pointer_size: 4,
             pixels: (row[1] * row[2] * row[3]) as usize,
             marks: row[9] as usize,
         }
@@ -44,6 +50,19 @@ impl Call {
     /// The example's only tile.
     fn example() -> Self {
         Call::new(&EXAMPLE, CHANNEL, 1)
+    }
+
+    /// The example's only tile in version 11.
+    fn long_example() -> Self {
+        Call::new(&version_11::example(), LONG_CHANNEL, 1).told(8)
+    }
+
+    /// The same call with another pointer size.
+    fn told(&self, pointer_size: u32) -> Self {
+        Call {
+            pointer_size,
+            ..self.clone()
+        }
     }
 
     /// The same call for a row with another number.
@@ -61,6 +80,13 @@ impl Call {
         }
     }
 
+    /// The same call for a file with another pointer of the size that is told.
+    fn with_pointer(&self, place: usize, pointer: u64) -> Self {
+        let mut call = self.clone();
+        set_number(&mut call.file, place, self.pointer_size as usize, pointer);
+        call
+    }
+
     /// The same call with so many bytes lent.
     fn lent(&self, pixels: usize, marks: usize) -> Self {
         Call {
@@ -74,11 +100,15 @@ impl Call {
     fn decode(&self, decode: DecodeDrawable) -> (DecodeAnswer, Vec<u8>, Vec<u8>) {
         let mut pixels = vec![FILLING; self.pixels];
         let mut marks = vec![FILLING; self.marks];
+        let (file, table) = (&self.file, &self.table);
         let Call {
-            row, compression, ..
+            row,
+            compression,
+            pointer_size: size,
+            ..
         } = *self;
         let lent = (&mut pixels[..], &mut marks[..]);
-        let answer = decode(&self.file, &self.table, row, compression, lent.0, lent.1);
+        let answer = decode(file, table, row, compression, size, lent.0, lent.1);
         (answer, pixels, marks)
     }
 
@@ -94,8 +124,9 @@ impl Call {
 
     /// Asserts, with both, what counting the marked tiles gives.
     fn assert_counts(&self, answer: DecodeAnswer) {
+        let (file, table) = (&self.file, &self.table);
         for count in COUNTERS {
-            let given = count(&self.file, &self.table, self.row, self.compression);
+            let given = count(file, table, self.row, self.compression, self.pointer_size);
             assert_eq!(given, answer);
         }
     }
@@ -119,23 +150,32 @@ impl Call {
     }
 }
 
-/// A drawable with a tile pointer for each tile at 1 and tiles behind them,
-/// in bytes that are no file.
-fn drawable(sides: [u32; 2], depth: u32, compression: u32, tiles: &[&[u8]]) -> Call {
-    let count = tiles.len() as u32;
-    let mut place = 1 + 4 * (count + 1);
-    let mut file = vec![0x99];
-    for tile in tiles {
-        file.extend(place.to_be_bytes());
-        place += tile.len() as u32;
+/// A drawable with a tile pointer of so many bytes for each tile at 1 and tiles
+/// behind them, in bytes that are no file.
+fn sized_drawable(
+    size: usize,
+    sides: [u32; 2],
+    depth: u32,
+    compression: u32,
+    tiles: &[&[u8]],
+) -> Call {
+    let mut file = vec![0; 1 + size * (tiles.len() + 1)];
+    file[0] = 0x99;
+    for (i, tile) in tiles.iter().enumerate() {
+        let place = file.len() as u64;
+        set_number(&mut file, 1 + size * i, size, place);
+        file.extend(*tile);
     }
-    file.extend([0; 4]);
-    file.extend(tiles.concat());
-    let [width, height] = sides;
+    let ([width, height], count) = (sides, tiles.len() as u32);
     let row = [
         1, width, height, depth, 0, 0, 0, 0, 1, count, 0, 0, 0, 0, 0, 0,
     ];
-    Call::new(&file, row, compression)
+    Call::new(&file, row, compression).told(size as u32)
+}
+
+/// The same with pointers of 4 bytes.
+fn drawable(sides: [u32; 2], depth: u32, compression: u32, tiles: &[&[u8]]) -> Call {
+    sized_drawable(4, sides, depth, compression, tiles)
 }
 
 /// Two plain tiles side by side, at 13 and 77; the pointers are at 1 and 5,
@@ -144,9 +184,16 @@ fn pair() -> Call {
     drawable([65, 1], 1, 0, &[&[1; 64], &[2]])
 }
 
+/// The same with pointers of 8 bytes: tiles at 25 and 89, pointers at 1 and 9,
+/// the closing zero at 17, and 90 bytes.
+fn long_pair() -> Call {
+    sized_drawable(8, [65, 1], 1, 0, &[&[1; 64], &[2]])
+}
+
 #[test]
 fn the_example() {
     Call::example().assert_decodes(&[0], &[0xFF]);
+    Call::long_example().assert_decodes(&[0], &[0xFF]);
 }
 
 #[test]
@@ -255,6 +302,90 @@ fn number_14_for_the_compression() {
     }
 }
 
+/// Sizes that are right but for high bits are none.
+#[test]
+fn number_14_for_the_pointer_size() {
+    for size in [
+        0,
+        1,
+        2,
+        3,
+        5,
+        6,
+        7,
+        9,
+        12,
+        16,
+        32,
+        64,
+        256 + 4,
+        256 + 8,
+        65_536 + 4,
+        1 << 31 | 8,
+        u32::MAX,
+    ] {
+        for call in [Call::example(), Call::long_example()] {
+            call.told(size).assert_refused(14, 0);
+            // Before pixels, marks and pointers are looked at.
+            call.told(size).lent(0, 0).assert_refused(14, 0);
+            call.with_word(137, 7).told(size).assert_refused(14, 0);
+        }
+    }
+}
+
+/// A pointer of 8 bytes and the closing zero take 16 of the file's 179 bytes.
+#[test]
+fn number_14_for_the_place_of_long_pointers() {
+    let call = Call::long_example();
+    for place in [
+        164,
+        171,
+        178,
+        179,
+        180,
+        1 << 31,
+        u32::MAX - 15,
+        u32::MAX - 14,
+        u32::MAX - 7,
+        u32::MAX,
+    ] {
+        call.with_field(8, place).assert_refused(14, 0);
+    }
+    // Here they are the file's last bytes, and the pointer is bad.
+    call.with_field(8, 163).assert_refused(13, 163);
+}
+
+/// What does not fit as pointers of 8 bytes may fit as ones of 4.
+#[test]
+fn number_14_for_the_room_of_either_size() {
+    let call = Call::example().told(8);
+    call.assert_refused(14, 0);
+    let mut longer = call.clone();
+    longer.file.extend([0; 5]);
+    longer.assert_refused(14, 0);
+    longer.file.push(0);
+    longer.assert_refused(13, 133);
+    longer.told(4).assert_decodes(&[0], &[0xFF]);
+}
+
+/// Pointers read in the other size: a long one's high word is a pointer of 0, a
+/// short one is the high word of one that leads far beyond the file.
+#[test]
+fn the_other_pointer_size() {
+    Call::long_example().told(4).assert_refused(13, 161);
+    long_pair().told(4).assert_refused(13, 1);
+    pair().told(8).assert_refused(13, 1);
+    // The first long pointer has all its bytes but the first four in common
+    // with a short one.
+    let file = words(&[0, 7, 0, 0, 0]);
+    let row = |place| [2, 1, 1, 1, 0, 0, 0, 0, place, 1, 0, 0, 0, 0, 0, 0];
+    let call = |place, size| Call::new(&file, row(place), 0).told(size);
+    call(0, 8).assert_decodes(&[0], &[7]);
+    call(4, 4).assert_decodes(&[0], &[7]);
+    call(0, 4).assert_refused(13, 0);
+    call(4, 8).assert_refused(13, 4);
+}
+
 #[test]
 fn number_13() {
     let call = Call::example();
@@ -273,6 +404,45 @@ fn number_13() {
     call.with_word(9, 77).assert_refused(13, 9);
 }
 
+/// All eight bytes count: those of the file's own pointers with another high
+/// word are bad, and a high word alone closes nothing.
+#[test]
+fn number_13_for_long_pointers() {
+    let far = [
+        1 << 32,
+        1 << 33,
+        1 << 63,
+        u64::MAX - 7,
+        u64::MAX - 3,
+        u64::MAX,
+    ];
+    let call = Call::long_example();
+    for pointer in [0, 179, 180, 1 << 31, 1 << 32 | 177, 1 << 56 | 177] {
+        call.with_pointer(161, pointer).assert_refused(13, 161);
+    }
+    for closing in [1, 178, 1 << 24, 1 << 31, 1 << 56] {
+        call.with_pointer(169, closing).assert_refused(13, 169);
+    }
+    for pointer in far {
+        call.with_pointer(161, pointer).assert_refused(13, 161);
+        call.with_pointer(169, pointer).assert_refused(13, 169);
+    }
+    let call = long_pair();
+    for pointer in [0, 1, 24, 25, 90, 91, 1 << 32 | 89] {
+        call.with_pointer(9, pointer).assert_refused(13, 9);
+    }
+    for pointer in far {
+        call.with_pointer(9, pointer).assert_refused(13, 9);
+    }
+    // The first is good, and the second no longer above it.
+    call.with_pointer(1, 89).assert_refused(13, 9);
+    // The first is bad, whatever the second is beside it.
+    call.with_pointer(1, 1 << 32 | 25).assert_refused(13, 1);
+    let both = call.with_pointer(1, 1 << 32 | 25);
+    both.with_pointer(9, 1 << 32 | 89).assert_refused(13, 1);
+    call.with_pointer(17, 1 << 32).assert_refused(13, 17);
+}
+
 #[test]
 fn number_13_at_the_lowest_bad_word() {
     let bad = pair().with_word(1, 0).with_word(5, 78).with_word(9, 1);
@@ -282,6 +452,22 @@ fn number_13_at_the_lowest_bad_word() {
     let bad = bad.with_word(5, 77);
     bad.assert_refused(13, 9);
     bad.with_word(9, 0)
+        .assert_decodes(&[0, 0], &[&[1; 64][..], &[2]].concat());
+}
+
+#[test]
+fn number_13_at_the_lowest_bad_long_pointer() {
+    let bad = [(1, 0), (9, 90), (17, 1 << 32)]
+        .into_iter()
+        .fold(long_pair(), |call, (place, pointer)| {
+            call.with_pointer(place, pointer)
+        });
+    bad.assert_refused(13, 1);
+    let bad = bad.with_pointer(1, 25);
+    bad.assert_refused(13, 9);
+    let bad = bad.with_pointer(9, 89);
+    bad.assert_refused(13, 17);
+    bad.with_pointer(17, 0)
         .assert_decodes(&[0, 0], &[&[1; 64][..], &[2]].concat());
 }
 
@@ -300,18 +486,18 @@ fn lent_pixels_and_marks_before_the_pointers() {
 }
 
 /// A file is too long from one byte above the limit on: found after the
-/// table's length and before the row.
-#[test]
-fn number_15() {
+/// table's length and before the row and the size of pointers.
+fn assert_limited(example: &Call) {
     // Memory that is zero from the start is not touched before it is used.
     let mut file = vec![0; FILE_LIMIT + 1];
-    file[..EXAMPLE.len()].copy_from_slice(&EXAMPLE);
+    file[..example.file.len()].copy_from_slice(&example.file);
     let mut call = Call {
         file,
-        ..Call::example()
+        ..example.clone()
     };
     call.assert_refused(15, 0);
     call.row = 128;
+    call.pointer_size = 0;
     call.assert_refused(15, 0);
     call.table.push(0);
     call.assert_refused(11, 0);
@@ -319,13 +505,22 @@ fn number_15() {
     call.assert_refused(15, 0);
     call.row = 0;
     call.file.truncate(FILE_LIMIT);
+    call.assert_refused(14, 0);
+    call.pointer_size = example.pointer_size;
     call.assert_decodes(&[0], &[0xFF]);
     // The only tile may be the last byte.
-    call.file[133..137].copy_from_slice(&(FILE_LIMIT as u32 - 1).to_be_bytes());
+    let (place, size) = (call.table[8] as usize, call.pointer_size as usize);
+    set_number(&mut call.file, place, size, FILE_LIMIT as u64 - 1);
     call.assert_decodes(&[20], &[0]);
     call.file[FILE_LIMIT - 1] = 7;
     call.compression = 0;
     call.assert_decodes(&[0], &[7]);
+}
+
+#[test]
+fn number_15() {
+    assert_limited(&Call::example());
+    assert_limited(&Call::long_example());
 }
 
 /// Numbers of the row that decoding does not use may be any.
@@ -358,22 +553,28 @@ fn any_row_of_the_table() {
 }
 
 /// Tiles lie row by row, and those in the last column and row are smaller.
-#[test]
-fn four_tiles() {
-    let call = drawable([65, 66], 1, 0, &[&[1; 4_096], &[2; 64], &[3; 128], &[4; 2]]);
+fn assert_four_tiles(size: usize) {
+    let tiles: [&[u8]; 4] = [&[1; 4_096], &[2; 64], &[3; 128], &[4; 2]];
+    let call = sized_drawable(size, [65, 66], 1, 0, &tiles);
     let mut pixels = vec![1; 65 * 66];
     for (i, pixel) in pixels.iter_mut().enumerate() {
         *pixel += u8::from(i % 65 == 64) + 2 * u8::from(i / 65 >= 64);
     }
     call.assert_decodes(&[0; 4], &pixels);
     // The second tile's window ends too soon if the third starts earlier.
-    let third = 21 + 4_096 + 63;
-    let call = call.with_word(9, third);
+    let third = 1 + 5 * size + 4_096 + 63;
+    let call = call.with_pointer(1 + 2 * size, third as u64);
     for line in 0..64 {
         pixels[65 * line + 64] = 0;
     }
     pixels[65 * 64] = 2;
     call.assert_decodes(&[0, 20, 0, 0], &pixels);
+}
+
+#[test]
+fn four_tiles() {
+    assert_four_tiles(4);
+    assert_four_tiles(8);
 }
 
 /// Sides of 200 and 150 take 12 tiles, the last of 8 by 22 pixels.
@@ -447,12 +648,12 @@ fn window_limit() {
     assert_eq!(first.len(), WINDOW_LIMIT);
     let longer = |window: &[u8]| [&[0x80, 0, 0], window].concat();
     let pixels = |one: u8, other: u8| [&[one; 64][..], &[other]].concat();
-    let call = drawable([65, 1], 1, 1, &[&first, &last]);
-    call.assert_decodes(&[0, 0], &pixels(5, 7));
-    let call = drawable([65, 1], 1, 1, &[&longer(&first), &last]);
-    call.assert_decodes(&[20, 0], &pixels(0, 7));
-    let call = drawable([65, 1], 1, 1, &[&first, &longer(&last)]);
-    call.assert_decodes(&[0, 20], &pixels(5, 0));
+    for size in [4, 8] {
+        let pair = |one: &[u8], other: &[u8]| sized_drawable(size, [65, 1], 1, 1, &[one, other]);
+        pair(&first, &last).assert_decodes(&[0, 0], &pixels(5, 7));
+        pair(&longer(&first), &last).assert_decodes(&[20, 0], &pixels(0, 7));
+        pair(&first, &longer(&last)).assert_decodes(&[0, 20], &pixels(5, 0));
+    }
 }
 
 /// Two rows may share their pointers, and a window may lie in another.
@@ -472,13 +673,16 @@ fn shared_and_overlapping_windows() {
     shared.assert_decodes(&[0, 0], &pixels);
 }
 
-/// A file of nothing but a pointer, its closing word and a tile.
+/// A file of nothing but a pointer and its closing zero, whose last byte is the
+/// tile.
 #[test]
 fn smallest_file() {
     let row = [2, 1, 1, 1, 0, 0, 0, 0, 0, 1, 0, 0, 0, 0, 0, 0];
-    let file = words(&[7, 0]);
-    Call::new(&file, row, 0).assert_decodes(&[0], &[0]);
-    Call::new(&file, row, 1).assert_decodes(&[20], &[0]);
-    Call::new(&file[..7], row, 0).assert_refused(14, 0);
-    Call::new(&[], row, 0).assert_refused(14, 0);
+    for (size, file) in [(4, words(&[7, 0])), (8, words(&[0, 15, 0, 0]))] {
+        let call = |file: &[u8], compression| Call::new(file, row, compression).told(size);
+        call(&file, 0).assert_decodes(&[0], &[0]);
+        call(&file, 1).assert_decodes(&[20], &[0]);
+        call(&file[..file.len() - 1], 0).assert_refused(14, 0);
+        call(&[], 0).assert_refused(14, 0);
+    }
 }

@@ -74,6 +74,7 @@ fn answer_to_reading(case: &TableCase) -> ReadAnswer {
         version: if is_new { 2 } else { 0 },
         compression: 1,
         rows: case.used() as u64,
+        pointer_size: 4,
     }
 }
 
@@ -104,7 +105,7 @@ fn assert_same_pixels(case: &TableCase, file: &[u8], table: &[u32], decode: Deco
         rest = later;
         let mut pixels = vec![0xA5; expected.len()];
         let mut marks = vec![0xA5; row[9] as usize];
-        let answer = decode(file, table, index as u32, 1, &mut pixels, &mut marks);
+        let answer = decode(file, table, index as u32, 1, 4, &mut pixels, &mut marks);
         assert_eq!(answer, DecodeAnswer::decoded(0), "{}", case.summary());
         assert!(marks.iter().all(|&mark| mark == 0), "{}", case.summary());
         assert_eq!(difference(&pixels, expected), None, "{}", case.summary());

@@ -231,7 +231,10 @@ impl Builder {
         block.word(FieldKind::Depth, shape.depth);
         block.pointer_to(FieldKind::LevelPointer, level, 0);
         for _ in 0..random.pick(&[0, 0, 1, 2, 5]) {
-            block.pointer(FieldKind::FurtherLevel, random_further(random, self.version));
+            block.pointer(
+                FieldKind::FurtherLevel,
+                random_further(random, self.version),
+            );
         }
         block.pointer(FieldKind::HierarchyEnd, 0);
         let block = self.add_block(block);

@@ -38,9 +38,10 @@ pub fn spoil(random: &mut Random, built: &mut BuiltFile, index: usize) -> Option
         }
         FieldKind::MapType => spoil_map_type(random, built, field),
         _ => {
-            let (value, refused) = faulty_pointer(random, built, field)
-                .or_else(|| faulty_word(random, built, field))
-                .or_else(|| displaced_fault(random, built, field))?;
+            let (value, refused) = faulty_word(random, built, field)
+                .or_else(|| displaced_fault(random, built, field))
+                .or_else(|| faulty_pointer(random, built, field))
+                .or_else(|| far_pointer(random, built, field))?;
             field.set(&mut built.bytes, value);
             Some(refused)
         }
@@ -89,52 +90,19 @@ fn spoil_map_type(random: &mut Random, built: &mut BuiltFile, field: Field) -> O
 /// A number that is a fault in the field, and the refusal.
 type Fault = (u64, Refused);
 
-/// A fault of a pointer, or of a 0 in its place.
-fn faulty_pointer(random: &mut Random, built: &BuiltFile, field: Field) -> Option<Fault> {
-    let length = built.bytes.len() as u32;
-    let right = field.number(&built.bytes);
-    let mut beyond = |last: u32| pointer_above(random, last, right, field.length);
-    let (value, number) = match field.kind {
-        FieldKind::LayerPointer
-        | FieldKind::ChannelPointer
-        | FieldKind::HierarchyPointer
-        | FieldKind::MaskPointer
-        | FieldKind::NoMask
-        | FieldKind::LevelPointer => {
-            let value = beyond(length - 4);
-            let may_be_zero = matches!(
-                field.kind,
-                FieldKind::HierarchyPointer | FieldKind::LevelPointer
-            );
-            if !may_be_zero || random.one_in(2) {
-                return Some((value, (PAST_END, value)));
-            }
-            (0, ZERO_POINTER)
-        }
-        FieldKind::FullPointersEnd => (beyond(0), TOO_MANY),
-        FieldKind::ClosingZero => (beyond(0), BAD_TILE_POINTER),
-        FieldKind::FirstTile | FieldKind::NextTile => {
-            let beyond = beyond(length - 1);
-            (bad_tile(random, built, field, beyond), BAD_TILE_POINTER)
-        }
-        _ => return None,
-    };
-    Some((value, (number, field.place as u64)))
-}
-
 /// A fault of a word, found at the word.
 fn faulty_word(random: &mut Random, built: &BuiltFile, field: Field) -> Option<Fault> {
     let place = field.place;
-    let old = field.number(&built.bytes) as u32;
+    let old = || word_at(&built.bytes, place);
     let (value, number) = match field.kind {
         FieldKind::CanvasSide | FieldKind::LayerSide => (bad_side(random), BAD_SIDE),
         FieldKind::OwnedSide if random.one_in(2) => (bad_side(random), BAD_SIDE),
-        FieldKind::OwnedSide => (other_side(random, old), DISAGREES),
+        FieldKind::OwnedSide => (other_side(random, old()), DISAGREES),
         FieldKind::Base => (bad_base(random, built), BAD_BASE),
         FieldKind::Precision => (bad_precision(random), BAD_PRECISION),
-        FieldKind::LayerType => (other_type(random, old), DISAGREES),
+        FieldKind::LayerType => (other_type(random, old()), DISAGREES),
         FieldKind::FloatingType => (5, FLOATING_SELECTION),
-        FieldKind::FixedLength => (other(random, old), PROPERTY_LENGTH),
+        FieldKind::FixedLength => (other(random, old()), PROPERTY_LENGTH),
         FieldKind::FloatingLength => (bad_floating_length(random, built), PROPERTY_LENGTH),
         FieldKind::MapLength => {
             let count = word_at(&built.bytes, place + 4);
@@ -144,7 +112,7 @@ fn faulty_word(random: &mut Random, built: &BuiltFile, field: Field) -> Option<F
         FieldKind::Opacity => (above(random, 255), BAD_CONTENT),
         FieldKind::Switch => (above(random, 1), BAD_CONTENT),
         FieldKind::HierarchySide | FieldKind::LevelSide | FieldKind::Depth => {
-            (other(random, old), DISAGREES)
+            (other(random, old()), DISAGREES)
         }
         _ => return None,
     };
@@ -170,6 +138,46 @@ fn displaced_fault(random: &mut Random, built: &BuiltFile, field: Field) -> Opti
         _ => return None,
     };
     Some((value.into(), (number, place as u64)))
+}
+
+/// A fault of a pointer, or of a 0 in its place, found where it stands.
+fn faulty_pointer(random: &mut Random, built: &BuiltFile, field: Field) -> Option<Fault> {
+    let size = field.length;
+    let (value, number) = match field.kind {
+        FieldKind::FullPointersEnd => (pointer_above(random, 0, 0, size), TOO_MANY),
+        FieldKind::ClosingZero => (pointer_above(random, 0, 0, size), BAD_TILE_POINTER),
+        FieldKind::HierarchyPointer | FieldKind::LevelPointer if random.one_in(2) => {
+            (0, ZERO_POINTER)
+        }
+        FieldKind::FirstTile | FieldKind::NextTile => {
+            (bad_tile(random, built, field), BAD_TILE_POINTER)
+        }
+        _ => return None,
+    };
+    Some((value, (number, field.place as u64)))
+}
+
+/// A pointer to a structure that is not whole, or not at all, in the file.
+fn far_pointer(random: &mut Random, built: &BuiltFile, field: Field) -> Option<Fault> {
+    match field.kind {
+        FieldKind::LayerPointer
+        | FieldKind::ChannelPointer
+        | FieldKind::HierarchyPointer
+        | FieldKind::MaskPointer
+        | FieldKind::NoMask
+        | FieldKind::LevelPointer => {
+            let last = built.bytes.len() as u32 - 4;
+            let value = beyond(random, built, field, last);
+            Some((value, (PAST_END, value)))
+        }
+        _ => None,
+    }
+}
+
+/// A pointer above the last place that is right, perhaps the field's own with
+/// another high word.
+fn beyond(random: &mut Random, built: &BuiltFile, field: Field, last: u32) -> u64 {
+    pointer_above(random, last, field.number(&built.bytes), field.length)
 }
 
 /// The length words that a colour map of so many colours may have.
@@ -207,14 +215,27 @@ fn bad_precision(random: &mut Random) -> u32 {
 /// A length that type 5 does not have in the file's version.
 fn bad_floating_length(random: &mut Random, built: &BuiltFile) -> u32 {
     let right = floating_lengths(built.known.answer.version as u32);
-    let mut wrong = vec![0, 1, 3, 5, 7, 8, 8, 8, 9, 12, 16, u32::MAX, other(random, 4)];
+    let mut wrong = vec![
+        0,
+        1,
+        3,
+        5,
+        7,
+        8,
+        8,
+        8,
+        9,
+        12,
+        16,
+        u32::MAX,
+        other(random, 4),
+    ];
     wrong.retain(|length| !right.contains(length));
     random.pick(&wrong)
 }
 
-/// A tile pointer that is 0, not above the one before, or beyond the file's
-/// end.
-fn bad_tile(random: &mut Random, built: &BuiltFile, field: Field, beyond: u64) -> u64 {
+/// A tile pointer that is 0, not above the one before, or not in the file.
+fn bad_tile(random: &mut Random, built: &BuiltFile, field: Field) -> u64 {
     let before = match field.kind {
         FieldKind::NextTile => {
             let place = field.place - field.length;
@@ -223,5 +244,6 @@ fn bad_tile(random: &mut Random, built: &BuiltFile, field: Field, beyond: u64) -
         _ => 0,
     };
     let below = random.between(0, before as usize) as u64;
+    let beyond = beyond(random, built, field, built.bytes.len() as u32 - 1);
     random.pick(&[0, before, below, beyond])
 }

@@ -17,7 +17,7 @@ fn assert_refused(file: &[u8], number: u64, place: usize) {
     for by in ALL {
         let mut table = vec![FILLING; TABLE_LENGTH];
         let answer = (by.read)(file, &mut table);
-        assert_eq!(answer, ReadAnswer::refused(number, place));
+        assert_eq!(answer, ReadAnswer::refused(number, place as u64));
         assert!(table == [0; TABLE_LENGTH], "{number} at {place}");
     }
 }

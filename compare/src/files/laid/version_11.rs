@@ -4,7 +4,10 @@ use super::{END, byte_property, lay, property, words};
 
 /// Pointers as bytes, or the zeros that end them.
 pub fn pointers(pointers: &[u64]) -> Vec<u8> {
-    pointers.iter().flat_map(|place| place.to_be_bytes()).collect()
+    pointers
+        .iter()
+        .flat_map(|place| place.to_be_bytes())
+        .collect()
 }
 
 /// The file with other pointers, each at its place.
