@@ -5,6 +5,7 @@ mod acceptances;
 mod maps;
 mod order;
 mod refusals;
+mod version_11;
 
 use xcf_compare::answer::{ReadAnswer, Row, TABLE_LENGTH};
 use xcf_compare::implementation::ALL;
