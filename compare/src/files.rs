@@ -9,10 +9,12 @@ mod fault;
 pub mod laid;
 mod property;
 pub mod version;
+mod widened;
 mod writer;
 
 pub use builder::{BuiltFile, decodable_file, random_file, random_sides};
 pub use example::EXAMPLE;
+pub use widened::widened;
 pub use writer::{DrawableFields, ImageFields, Layer, Writer, write_file};
 
 use crate::answer::{ReadAnswer, Row, TABLE_LENGTH, WRONG_LENGTH};
