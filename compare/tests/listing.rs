@@ -5,7 +5,7 @@ use std::fs;
 use std::path::Path;
 
 use xcf_compare::files::EXAMPLE;
-use xcf_compare::files::laid::with;
+use xcf_compare::files::laid::{version_11, with};
 use xcf_compare::folder;
 use xcf_compare::list::list;
 use xcf_compare::list_cases::{ListCase, arguments, build, expected};
@@ -21,6 +21,13 @@ fn the_example() {
     // The tile is cut short.
     let marked = EXAMPLE_LISTING.replace("bad 0", "bad 1");
     assert_eq!(list(&EXAMPLE[..142]), marked);
+}
+
+#[test]
+fn the_example_in_version_11() {
+    let listing = "canvas 1 1 base 1 version 11 compression 1 rows 1\n\
+                   0 channel 1 1 1 2 83 1 85 161 1 255 1 0 0 0 0 bad 0\n";
+    assert_eq!(list(&version_11::example()), listing);
 }
 
 #[test]
