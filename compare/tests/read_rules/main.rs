@@ -2,6 +2,8 @@
 //! implementations with the answers written out.
 
 mod acceptances;
+mod floating;
+mod long_pointers;
 mod maps;
 mod order;
 mod refusals;
