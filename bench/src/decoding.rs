@@ -49,7 +49,7 @@ impl Drawable {
 
     fn decode(&self, decode: DecodeDrawable, lent: &mut Lent) -> DecodeAnswer {
         let Lent { pixels, marks } = lent;
-        decode(&self.file, &self.table, 0, 1, pixels, marks)
+        decode(&self.file, &self.table, 0, 1, 4, pixels, marks)
     }
 
     /// Stops unless the decoder gives the pixels, and marks no tile.

@@ -33,18 +33,22 @@ const CLOSING_BYTE: usize = 140;
 /// The longest side there may be: 256 tiles.
 const LONGEST: u32 = 16_384;
 
-/// Rows of the large file, all of one layer.
+/// Rows of a large file, all of one layer.
 pub const LARGE_ROWS: usize = 16;
 
-/// Tile pointers read for the large file.
+/// Tile pointers read for a large file.
 pub const LARGE_POINTERS: usize = LARGE_ROWS * 65_536;
 
-/// A file of one layer with as many tiles as there may be, to which all the
-/// image's pointers lead.
-pub fn large(random: &mut Random) -> Vec<u8> {
+/// A file of the version with one layer of as many tiles as there may be, to
+/// which all the image's pointers lead.
+pub fn large(random: &mut Random, version: u32) -> Vec<u8> {
     let sides = [LONGEST; 2];
-    let mut writer = Writer::default();
-    for pointer in writer.image(&image(sides, 0), LARGE_ROWS, 0) {
+    let image = ImageFields {
+        version,
+        ..image(sides, 0)
+    };
+    let (mut writer, pointers) = Writer::new(&image, LARGE_ROWS, 0);
+    for pointer in pointers {
         writer.lead_here(pointer);
     }
     writer.layer(&Layer {
@@ -110,7 +114,7 @@ pub fn one_layer(side: u32, depth: u32, tiles: Vec<Vec<u8>>) -> Vec<u8> {
 fn image(sides: [u32; 2], base: u32) -> ImageFields {
     let resolution = [0x42, 0x90, 0, 0, 0x42, 0x90, 0, 0];
     ImageFields {
-        tag: b"file\0",
+        version: 0,
         sides,
         base,
         list: [

@@ -86,8 +86,9 @@ fn decode(path: &Path, read: Read, decode: DecodeDrawable, lent: &mut Lent) {
     } = lent;
     let file = fs::read(path).expect("the file is there");
     let answer = read(&file, table);
-    let compression = answer.compression as u32;
-    let answer = decode(&file, table, 0, compression, black_box(pixels), marks);
+    let [compression, pointer_size] = answer.form();
+    let pixels = black_box(pixels);
+    let answer = decode(&file, table, 0, compression, pointer_size, pixels, marks);
     assert_eq!((answer.number, answer.marked), (0, 0));
 }
 

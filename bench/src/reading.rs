@@ -21,10 +21,11 @@ struct Files {
 }
 
 impl Files {
-    fn large(random: &mut Random) -> Self {
+    /// Tile pointers of 4 bytes in version 0, of 8 in version 11.
+    fn large(content: &'static str, random: &mut Random, version: u32) -> Self {
         Files {
-            content: "large",
-            files: vec![files::large(random)],
+            content,
+            files: vec![files::large(random, version)],
             number: 0,
             rows: files::LARGE_ROWS,
             repeats: 8,
@@ -99,10 +100,17 @@ pub fn compare_readers() {
     println!("Files read, medians of {ROUNDS} rounds, ns for a file");
     println!();
     println!("               content     library       plain    ratio");
-    let large = Files::large(&mut random).compare();
+    let short = Files::large("large", &mut random, 0).compare();
+    let long = Files::large("v011", &mut random, 11).compare();
     Files::many(&mut random).compare();
     Files::refused().compare();
-    let [library, plain] = large.map(|time| time / files::LARGE_POINTERS as f64);
     println!();
-    println!("Large, ns for a tile pointer: library {library:.2}, plain {plain:.2}");
+    println!(
+        "Large files of {} tile pointers, ns for each",
+        files::LARGE_POINTERS
+    );
+    for (size, times) in [(4, short), (8, long)] {
+        let [library, plain] = times.map(|time| time / files::LARGE_POINTERS as f64);
+        println!("of {size} bytes: library {library:.2}, plain {plain:.2}");
+    }
 }

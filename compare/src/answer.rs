@@ -4,7 +4,7 @@
 pub const PAST_END: u64 = 1;
 /// The file does not begin with "gimp xcf ".
 pub const NOT_XCF: u64 = 2;
-/// The version is none of 0 to 3.
+/// The version is none of 0 to 3 and 11.
 pub const UNKNOWN_VERSION: u64 = 3;
 /// A side is outside 1 to 16,384.
 pub const BAD_SIDE: u64 = 4;
@@ -26,7 +26,7 @@ pub const WRONG_LENGTH: u64 = 11;
 pub const UNENDED_STRING: u64 = 12;
 /// A tile pointer, or the word that closes them, breaks its rule.
 pub const BAD_TILE_POINTER: u64 = 13;
-/// A row, side, depth or compression that is not decoded or encoded.
+/// A row, side, depth, compression or pointer size that is not decoded or encoded.
 pub const UNUSABLE: u64 = 14;
 /// The file is longer than the limit.
 pub const FILE_TOO_LONG: u64 = 15;
@@ -36,6 +36,8 @@ pub const FLOATING_SELECTION: u64 = 16;
 pub const UNUSABLE_ROW: u64 = 17;
 /// The output is too short, or the file would be longer than the limit.
 pub const OUTPUT_TOO_SHORT: u64 = 18;
+/// The precision is not that of eight bits with gamma.
+pub const BAD_PRECISION: u64 = 25;
 
 /// The mark of a good tile.
 pub const GOOD: u64 = 0;
@@ -74,10 +76,11 @@ pub type Decode = fn(&[u8], u32, u32, u32, u32, &mut [u8]) -> TileAnswer;
 pub type Encode = fn(&[u8], u32, u32, u32, &mut [u8]) -> WriteAnswer;
 /// A reader: file, table.
 pub type Read = fn(&[u8], &mut [u32]) -> ReadAnswer;
-/// A decoder of drawables: file, table, row, compression, pixels, marks.
-pub type DecodeDrawable = fn(&[u8], &[u32], u32, u32, &mut [u8], &mut [u8]) -> DecodeAnswer;
-/// A counter of marked tiles: file, table, row, compression.
-pub type CountMarked = fn(&[u8], &[u32], u32, u32) -> DecodeAnswer;
+/// A decoder of drawables: file, table, row, compression, pointer size, pixels,
+/// marks.
+pub type DecodeDrawable = fn(&[u8], &[u32], u32, u32, u32, &mut [u8], &mut [u8]) -> DecodeAnswer;
+/// A counter of marked tiles: file, table, row, compression, pointer size.
+pub type CountMarked = fn(&[u8], &[u32], u32, u32, u32) -> DecodeAnswer;
 /// A lister: file, table, text.
 pub type List = fn(&[u8], &mut [u32], &mut [u8]) -> ListAnswer;
 /// A writer: width, height, base, table, names, pixels, output.
@@ -156,11 +159,12 @@ pub struct ReadAnswer {
     pub version: u64,
     pub compression: u64,
     pub rows: u64,
+    pub pointer_size: u64,
 }
 
 impl ReadAnswer {
     /// An image's five numbers (sides, base, version, compression) and how many
-    /// rows it has.
+    /// rows it has. In version 11 pointers have 8 bytes, else 4.
     pub const fn accepted(image: [u64; 5], rows: usize) -> Self {
         let [width, height, base, version, compression] = image;
         ReadAnswer {
@@ -172,20 +176,28 @@ impl ReadAnswer {
             version,
             compression,
             rows: rows as u64,
+            pointer_size: if version == 11 { 8 } else { 4 },
         }
     }
 
-    pub fn refused(number: u64, place: usize) -> Self {
+    pub fn refused(number: u64, place: u64) -> Self {
         ReadAnswer {
             number,
-            place: place as u64,
+            place,
             width: 0,
             height: 0,
             base: 0,
             version: 0,
             compression: 0,
             rows: 0,
+            pointer_size: 0,
         }
+    }
+
+    /// What decoding the file's drawables takes: the compression, and the size
+    /// of pointers.
+    pub fn form(&self) -> [u32; 2] {
+        [self.compression, self.pointer_size].map(|number| number as u32)
     }
 }
 

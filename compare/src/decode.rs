@@ -12,8 +12,8 @@ use crate::tile;
 /// The longest side of a tile.
 const TILE_SIDE: usize = 64;
 
-/// The numbers that decoding takes from a row, and the compression, all of
-/// them usable.
+/// The numbers that decoding takes from a row, the compression and the size of
+/// pointers, all of them usable.
 #[derive(Clone, Copy, Debug)]
 pub struct Drawable {
     width: usize,
@@ -24,6 +24,8 @@ pub struct Drawable {
     /// How many tiles there are.
     count: usize,
     compression: u32,
+    /// Bytes in a pointer.
+    pointer_size: usize,
 }
 
 /// The part of a drawable that a tile covers.
@@ -40,6 +42,7 @@ impl Drawable {
         table: &[u32],
         row: u32,
         compression: u32,
+        pointer_size: u32,
     ) -> Result<Self, DecodeAnswer> {
         if table.len() != TABLE_LENGTH {
             return Err(DecodeAnswer::refused(WRONG_LENGTH, 0));
@@ -50,19 +53,20 @@ impl Drawable {
         table
             .chunks(ROW_LENGTH)
             .nth(row as usize)
-            .and_then(|row| Drawable::of_row(row, compression))
+            .and_then(|row| Drawable::of_row(row, compression, pointer_size))
             .filter(|drawable| drawable.pointers_end() <= file.len())
             .ok_or(DecodeAnswer::refused(UNUSABLE, 0))
     }
 
     /// The row's numbers, if each is in range and the tile count fits the
     /// sides.
-    pub fn of_row(row: &[u32], compression: u32) -> Option<Self> {
+    pub fn of_row(row: &[u32], compression: u32, pointer_size: u32) -> Option<Self> {
         let in_range = (1..=3).contains(&row[0])
             && (1..=SIDE_LIMIT).contains(&row[1])
             && (1..=SIDE_LIMIT).contains(&row[2])
             && (1..=4).contains(&row[3])
-            && compression <= 1;
+            && compression <= 1
+            && [4, 8].contains(&pointer_size);
         let drawable = Drawable {
             width: row[1] as usize,
             height: row[2] as usize,
@@ -70,6 +74,7 @@ impl Drawable {
             place: row[8] as usize,
             count: row[9] as usize,
             compression,
+            pointer_size: pointer_size as usize,
         };
         (in_range && drawable.count == drawable.tiles_across() * drawable.tiles_down())
             .then_some(drawable)
@@ -83,9 +88,14 @@ impl Drawable {
         self.height.div_ceil(TILE_SIDE)
     }
 
-    /// The end of the tile pointers and of the word that closes them.
+    /// The place of the tile pointer of an index, or of what follows them all.
+    fn pointer_place(&self, index: usize) -> usize {
+        self.place + self.pointer_size * index
+    }
+
+    /// The end of the tile pointers and of the zero that closes them.
     fn pointers_end(&self) -> usize {
-        self.place + 4 * (self.count + 1)
+        self.pointer_place(self.count + 1)
     }
 
     /// Bytes in all pixels.
@@ -98,33 +108,41 @@ impl Drawable {
         self.count
     }
 
-    /// The tiles' windows, unless a pointer or the closing word is bad.
+    /// The tile pointers, and what closes them.
+    fn pointers(&self, file: &[u8]) -> Vec<u64> {
+        let append = |high, &byte| high << 8 | u64::from(byte);
+        file[self.place..self.pointers_end()]
+            .chunks(self.pointer_size)
+            .map(|bytes| bytes.iter().fold(0, append))
+            .collect()
+    }
+
+    /// The tiles' windows, unless a pointer or the closing zero is bad.
     pub fn windows(&self, file: &[u8]) -> Result<Vec<Range<usize>>, DecodeAnswer> {
-        let (words, _) = file[self.place..self.pointers_end()].as_chunks();
-        let words: Vec<usize> = words
-            .iter()
-            .map(|&word| u32::from_be_bytes(word) as usize)
-            .collect();
-        let (&closing, pointers) = words.split_last().expect("the closing word");
-        let mut ends = Vec::new();
+        let pointers = self.pointers(file);
+        let (&closing, pointers) = pointers.split_last().expect("the closing zero");
+        let mut places = Vec::new();
+        let mut before = 0;
         for (i, &pointer) in pointers.iter().enumerate() {
-            let before = if i == 0 { 0 } else { pointers[i - 1] };
-            if pointer <= before || pointer >= file.len() {
-                return Err(self.bad_word(i));
+            if pointer <= before || pointer >= file.len() as u64 {
+                return Err(self.bad_pointer(i));
             }
-            ends.push(pointers.get(i + 1).copied().unwrap_or(file.len()));
+            places.push(pointer as usize);
+            before = pointer;
         }
         if closing != 0 {
-            return Err(self.bad_word(self.count));
+            return Err(self.bad_pointer(self.count));
         }
-        let windows = pointers.iter().zip(ends);
-        Ok(windows
+        let ends = places[1..].iter().copied().chain([file.len()]);
+        Ok(places
+            .iter()
+            .zip(ends)
             .map(|(&start, end)| start..end.min(start + WINDOW_LIMIT))
             .collect())
     }
 
-    fn bad_word(&self, index: usize) -> DecodeAnswer {
-        DecodeAnswer::refused(BAD_TILE_POINTER, self.place + 4 * index)
+    fn bad_pointer(&self, index: usize) -> DecodeAnswer {
+        DecodeAnswer::refused(BAD_TILE_POINTER, self.pointer_place(index))
     }
 
     fn area(&self, tile: usize) -> Area {
@@ -214,17 +232,24 @@ pub fn decode(
     table: &[u32],
     row: u32,
     compression: u32,
+    pointer_size: u32,
     pixels: &mut [u8],
     marks: &mut [u8],
 ) -> DecodeAnswer {
-    Drawable::new(file, table, row, compression)
+    Drawable::new(file, table, row, compression, pointer_size)
         .and_then(|drawable| drawable.fill(file, pixels, marks))
         .map_or_else(|refusal| refusal, DecodeAnswer::decoded)
 }
 
 /// Counts the marked tiles of the drawable of a row.
-pub fn count_marked(file: &[u8], table: &[u32], row: u32, compression: u32) -> DecodeAnswer {
-    Drawable::new(file, table, row, compression)
+pub fn count_marked(
+    file: &[u8],
+    table: &[u32],
+    row: u32,
+    compression: u32,
+    pointer_size: u32,
+) -> DecodeAnswer {
+    Drawable::new(file, table, row, compression, pointer_size)
         .and_then(|drawable| drawable.marks(file))
         .map_or_else(
             |refusal| refusal,

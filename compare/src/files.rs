@@ -1,6 +1,6 @@
 //! Random files for comparing the reference reader with the library.
 
-pub(crate) mod block;
+pub mod block;
 mod builder;
 mod damage;
 pub(crate) mod drawable;
@@ -8,14 +8,18 @@ mod example;
 mod fault;
 pub mod laid;
 mod property;
+pub mod version;
+mod widened;
 mod writer;
 
 pub use builder::{BuiltFile, decodable_file, random_file, random_sides};
 pub use example::EXAMPLE;
+pub use widened::widened;
 pub use writer::{DrawableFields, ImageFields, Layer, Writer, write_file};
 
 use crate::answer::{ReadAnswer, Row, TABLE_LENGTH, WRONG_LENGTH};
 use crate::random::Random;
+use version::{PRECISION, has_precision, tag};
 
 /// Bytes per pixel of the layer types 0 to 5. Not shared with the reference: a
 /// mistake there must not be one in the files that test it.
@@ -197,7 +201,13 @@ fn wrong_table_case(random: &mut Random) -> FileCase {
 /// Random bytes, perhaps behind the bytes that every file of a version starts
 /// with.
 fn noise(random: &mut Random) -> Vec<u8> {
-    let start: &[u8] = random.pick(&[b"", b"gimp xcf ", b"gimp xcf file\0", b"gimp xcf v003\0"]);
+    let start: &[u8] = random.pick(&[
+        b"",
+        b"gimp xcf ",
+        b"gimp xcf file\0",
+        b"gimp xcf v003\0",
+        b"gimp xcf v011\0",
+    ]);
     let length = random.below(200);
     [start, &random.bytes(length)].concat()
 }
@@ -205,12 +215,16 @@ fn noise(random: &mut Random) -> Vec<u8> {
 /// A canvas, then words such as occur in property lists, structures and
 /// pointers.
 fn words(random: &mut Random) -> Vec<u8> {
-    let mut file = b"gimp xcf v001\0".to_vec();
+    let version = random.pick(&[1, 1, 11]);
+    let mut file = [&b"gimp xcf "[..], &tag(version)].concat();
     let side = random.pick(&[1, 1, 64, 65]);
     let base = random.pick(&[0, 1, 1, 2]);
-    let count = random.between(4, 60);
-    let length = file.len() + 12 + 4 * count;
     let mut words = vec![side, side, base];
+    if has_precision(version) {
+        words.push(PRECISION);
+    }
+    let count = random.between(4, 60);
+    let length = file.len() + 4 * (words.len() + count);
     for _ in 0..count {
         words.push(match random.below(8) {
             0..=3 => 0,

@@ -47,8 +47,8 @@ pub const PLAIN: Implementation = Implementation {
         plain::written(xcf_plain::encode_tile(pixels, width, height, depth, output))
     },
     read: |file, table| plain::read(xcf_plain::read(file, table)),
-    decode: |file, table, row, compression, pixels, marks| {
-        let marked = xcf_plain::decode(file, table, row, compression, pixels, marks);
+    decode: |file, table, row, compression, pointer_size, pixels, marks| {
+        let marked = xcf_plain::decode(file, table, row, compression, pointer_size, pixels, marks);
         plain::decoded(marked)
     },
     write: |width, height, base, table, names, pixels, output| {

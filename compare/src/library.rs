@@ -19,7 +19,9 @@ macro_rules! convert {
 convert! {
     TileAnswer { number, place, mark, consumed, operations }
     WriteAnswer { number, place, length }
-    ReadAnswer { number, place, width, height, base, version, compression, rows }
+    ReadAnswer {
+        number, place, width, height, base, version, compression, rows, pointer_size
+    }
     DecodeAnswer { number, place, marked }
     ListAnswer { number, place, refused, at, marked, length }
 }
@@ -58,14 +60,21 @@ pub fn decode(
     table: &[u32],
     row: u32,
     compression: u32,
+    pointer_size: u32,
     pixels: &mut [u8],
     marks: &mut [u8],
 ) -> DecodeAnswer {
-    library::decode(file, table, row, compression, pixels, marks).into()
+    library::decode(file, table, row, compression, pointer_size, pixels, marks).into()
 }
 
-pub fn count_marked(file: &[u8], table: &[u32], row: u32, compression: u32) -> DecodeAnswer {
-    library::count_marked(file, table, row, compression).into()
+pub fn count_marked(
+    file: &[u8],
+    table: &[u32],
+    row: u32,
+    compression: u32,
+    pointer_size: u32,
+) -> DecodeAnswer {
+    library::count_marked(file, table, row, compression, pointer_size).into()
 }
 
 pub fn write(

@@ -33,8 +33,9 @@ fn listing(file: &[u8], table: &mut [u32]) -> (ReadAnswer, String, u64) {
         return (answer, refusal(&answer), 0);
     }
     let (mut text, mut marked_tiles) = (image_line(&answer), 0);
+    let [compression, pointer_size] = answer.form();
     for row in 0..answer.rows as u32 {
-        let counted = count_marked(file, table, row, answer.compression as u32);
+        let counted = count_marked(file, table, row, compression, pointer_size);
         assert_eq!(counted.number, 0, "what was read can be decoded");
         text += &row_line(table, row, counted.marked);
         marked_tiles += counted.marked;

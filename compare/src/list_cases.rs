@@ -5,8 +5,8 @@ use crate::answer::{LIST_LIMIT, TABLE_LENGTH, WINDOW_LIMIT};
 use crate::cases::Shape;
 use crate::files::drawable::{tile_count, tile_shape};
 use crate::files::laid::{
-    byte_property, empty_image, grey_layer, layered, pointers_only, property, with, with_byte,
-    words,
+    byte_property, empty_image, grey_layer, layered, pointers_only, property, version_11, with,
+    with_byte, words,
 };
 use crate::files::{DEPTHS, DrawableFields, EXAMPLE, ImageFields, Layer, Writer, write_file};
 use crate::list::list;
@@ -69,6 +69,7 @@ fn refused() -> Vec<ListCase> {
     let mut cases = vec![
         ListCase::new("refused_empty", Vec::new()),
         ListCase::new("refused_far_pointer", pointers_only(1, 0)),
+        ListCase::new("refused_last_place", version_11::pointers_only(1, 0)),
     ];
     for (number, file) in [
         (1, EXAMPLE[..100].to_vec()),
@@ -85,6 +86,7 @@ fn refused() -> Vec<ListCase> {
         (13, with(&layered(), &[(130, 267)])),
         (15, padded_example(LIST_LIMIT + 1)),
         (16, grey_layer(&property(FLOATING, &[0]))),
+        (25, with(&version_11::example(), &[(26, 100)])),
     ] {
         cases.push(ListCase::new(&format!("refused_{number:02}"), file));
     }
@@ -116,6 +118,7 @@ fn accepted() -> Vec<ListCase> {
         ListCase::new("accepted_several_tiles", several_tiles()),
         ListCase::new("accepted_skipped", skipped()),
         ListCase::new("accepted_tiles_plain", plain_tiles()),
+        ListCase::new("accepted_v11_encoded", versioned(11, 1)),
         ListCase::new("accepted_window_limit", window_limit()),
     ];
     for version in 0..4 {
@@ -130,7 +133,7 @@ fn accepted() -> Vec<ListCase> {
 /// An image of the sides and the base type, in version 3.
 fn image(sides: [u32; 2], base: u32, compression: u8) -> ImageFields {
     ImageFields {
-        tag: b"v003\0",
+        version: 3,
         sides,
         base,
         list: byte_property(COMPRESSION, &[compression]),
@@ -175,14 +178,19 @@ fn layer(name: &str, sides: [u32; 2], kind: u32, list: Vec<u8>) -> Layer {
     }
 }
 
-/// Versions 0 to 3: an RGB image; an indexed one; a grey one with a mode of its
-/// version; an RGB one with a group. Encoded layers have alpha and a mask.
+/// Versions 0 to 3 and 11: an RGB image; an indexed one; a grey one with a mode
+/// of its version; an RGB one with a group; an indexed one whose channel has a
+/// long property. Encoded layers have alpha and a mask.
 fn versioned(version: u32, compression: u8) -> Vec<u8> {
-    let base = [0, 2, 1, 0][version as usize];
+    let base = match version {
+        0 | 3 => 0,
+        2 => 1,
+        _ => 2,
+    };
     let kind = 2 * base + u32::from(compression);
     let sides = [20, 7];
     let mut fields = image(sides, base, compression);
-    fields.tag = [b"file\0", b"v001\0", b"v002\0", b"v003\0"][version as usize];
+    fields.version = version;
     if base == 2 {
         let map = [&[0, 0, 0, 3], &[0x55; 9][..]].concat();
         fields.list.extend(byte_property(COLOUR_MAP, &map));
@@ -199,14 +207,16 @@ fn versioned(version: u32, compression: u8) -> Vec<u8> {
         layers.insert(0, coloured("Group", group));
         layers[1].fields.list.extend(property(PATH, &[0, 1]));
     }
-    let pen = drawable("Pen", sides, 1, compression, property(VISIBLE, &[1]));
+    let mut pen = drawable("Pen", sides, 1, compression, property(VISIBLE, &[1]));
+    if version == 11 {
+        pen.list.extend(property(FLOATING, &[1, 0]));
+    }
     write_file(&fields, &layers, &[pen])
 }
 
 /// All pointers to layers lead to one layer, those to channels to one channel.
 fn repeated(layers: usize, channels: usize) -> Vec<u8> {
-    let mut writer = Writer::default();
-    let pointers = writer.image(&image([2, 2], 1, 1), layers, channels);
+    let (mut writer, pointers) = Writer::new(&image([2, 2], 1, 1), layers, channels);
     for &pointer in &pointers[..layers] {
         writer.lead_here(pointer);
     }
@@ -302,7 +312,7 @@ fn several_tiles() -> Vec<u8> {
 /// An indexed image whose colour map of two has the length word of old releases.
 fn old_map() -> Vec<u8> {
     let mut fields = image([3, 2], 2, 1);
-    fields.tag = b"v001\0";
+    fields.version = 1;
     fields.list.extend(words(&[COLOUR_MAP, 2 + 4, 2]));
     fields.list.extend([0x55; 2 * 3]);
     write_file(&fields, &[layer("chart", [3, 2], 5, Vec::new())], &[])

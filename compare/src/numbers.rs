@@ -9,6 +9,28 @@ pub fn above(random: &mut Random, limit: u32) -> u32 {
     random.pick(&[limit + 1, near, any, u32::MAX])
 }
 
+/// A pointer of so many bytes above `limit`. One of eight bytes may be `right`
+/// with another high word, one that has no low word, or one so high that the
+/// bytes it leads to have no places.
+pub fn pointer_above(random: &mut Random, limit: u32, right: u64, size: usize) -> u64 {
+    let low = u64::from(above(random, limit));
+    if size == 4 {
+        return low;
+    }
+    let last = u64::MAX - random.below(17) as u64;
+    let any = (random.between(1, u32::MAX as usize) as u64) << 32 | random.word() >> 32;
+    random.pick(&[
+        low,
+        low,
+        1 << 32 | right,
+        1 << 32 | low,
+        1 << 32,
+        1 << 63 | right,
+        last,
+        any,
+    ])
+}
+
 /// A number other than `old`: a neighbour, one that differs in a byte, or any.
 pub fn other(random: &mut Random, old: u32) -> u32 {
     let any = old ^ random.between(1, u32::MAX as usize) as u32;

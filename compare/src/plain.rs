@@ -13,7 +13,7 @@ pub fn decoded_tile(result: Result<Tile, Refusal>) -> TileAnswer {
     match result {
         Ok(tile) => TileAnswer::decoded(tile.mark as u64, tile.consumed, tile.operations),
         Err(refusal) => TileAnswer {
-            place: refusal.place as u64,
+            place: refusal.place,
             ..TileAnswer::refused(number(refusal))
         },
     }
@@ -23,7 +23,7 @@ pub fn decoded_tile(result: Result<Tile, Refusal>) -> TileAnswer {
 pub fn written(result: Result<usize, Refusal>) -> WriteAnswer {
     match result {
         Ok(length) => WriteAnswer::written(length),
-        Err(refusal) => WriteAnswer::refused_at(number(refusal), refusal.place),
+        Err(refusal) => WriteAnswer::refused_at(number(refusal), refusal.place as usize),
     }
 }
 
@@ -32,20 +32,23 @@ pub fn read(result: Result<Image, Refusal>) -> ReadAnswer {
         Ok(image) => image,
         Err(refusal) => return ReadAnswer::refused(number(refusal), refusal.place),
     };
-    let numbers = [
-        image.width,
-        image.height,
-        image.base,
-        image.version,
-        image.compression,
-    ];
-    ReadAnswer::accepted(numbers.map(u64::from), image.rows)
+    ReadAnswer {
+        number: 0,
+        place: 0,
+        width: image.width.into(),
+        height: image.height.into(),
+        base: image.base.into(),
+        version: image.version.into(),
+        compression: image.compression.into(),
+        rows: image.rows as u64,
+        pointer_size: image.pointer_size.into(),
+    }
 }
 
 /// The answer to decoding a drawable of so many marked tiles.
 pub fn decoded(result: Result<usize, Refusal>) -> DecodeAnswer {
     match result {
         Ok(marked) => DecodeAnswer::decoded(marked),
-        Err(refusal) => DecodeAnswer::refused(number(refusal), refusal.place),
+        Err(refusal) => DecodeAnswer::refused(number(refusal), refusal.place as usize),
     }
 }

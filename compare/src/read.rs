@@ -5,6 +5,7 @@ mod cursor;
 mod drawable;
 mod image;
 mod property;
+mod version;
 
 use std::ops::Range;
 
@@ -17,7 +18,7 @@ use image::Image;
 #[derive(Clone, Copy, Debug, PartialEq, Eq)]
 struct Refusal {
     number: u64,
-    place: usize,
+    place: u64,
 }
 
 /// Reads a file; the table takes a row for each drawable.
@@ -57,8 +58,9 @@ fn accepted(image: &Image) -> ReadAnswer {
         width: image.width.into(),
         height: image.height.into(),
         base: image.base.into(),
-        version: image.version.into(),
+        version: image.version.number.into(),
         compression: image.compression.into(),
         rows: image.rows.len() as u64,
+        pointer_size: image.version.pointer_size() as u64,
     }
 }

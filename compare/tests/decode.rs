@@ -6,6 +6,7 @@ use xcf_compare::answer::{
 };
 use xcf_compare::cases::drawable::{DrawableCase, Kind, random_case};
 use xcf_compare::decode::Drawable;
+use xcf_compare::files::version::{VERSIONS, of_tag};
 use xcf_compare::guard::{Guarded, difference};
 use xcf_compare::implementation::agree;
 use xcf_compare::random::Random;
@@ -13,19 +14,19 @@ use xcf_compare::tally::Tally;
 use xcf_compare::{decode, library, report};
 
 const SEED: u64 = 0x6472_6177_0000_0001;
-const CASES: usize = 30_000;
+const CASES: usize = 40_000;
 
 /// Decodes with all and asserts that they agree; gives the answer and the
 /// marks.
 fn decode_case(case: &DrawableCase) -> (DecodeAnswer, Vec<u8>) {
     let (file, table) = (&case.file, &case.table);
-    let (row, compression) = (case.row, case.compression);
+    let (row, compression, size) = (case.row, case.compression, case.pointer_size);
     let (answer, [pixels, marks]) = agree(
         || case.summary(),
         |by| {
             let mut lent = [&case.pixels, &case.marks].map(|lent| Guarded::new(lent));
             let [pixels, marks] = lent.each_mut().map(Guarded::lent);
-            let answer = (by.decode)(file, table, row, compression, pixels, marks);
+            let answer = (by.decode)(file, table, row, compression, size, pixels, marks);
             (answer, lent)
         },
     );
@@ -40,7 +41,13 @@ fn decode_case(case: &DrawableCase) -> (DecodeAnswer, Vec<u8>) {
 
 /// Asserts that the pixels of marked tiles are all zero.
 fn assert_zero_where_marked(case: &DrawableCase, pixels: &[u8], marks: &[u8]) {
-    let drawable = Drawable::new(&case.file, &case.table, case.row, case.compression);
+    let DrawableCase {
+        row,
+        compression,
+        pointer_size,
+        ..
+    } = *case;
+    let drawable = Drawable::new(&case.file, &case.table, row, compression, pointer_size);
     let drawable = drawable.expect("the row was decoded");
     for (tile, &mark) in marks.iter().enumerate() {
         let is_zero = || drawable.cut_out(tile, pixels).iter().all(|&byte| byte == 0);
@@ -50,8 +57,14 @@ fn assert_zero_where_marked(case: &DrawableCase, pixels: &[u8], marks: &[u8]) {
 
 /// Counts with both and asserts that they agree; gives the answer.
 fn count_both(case: &DrawableCase) -> DecodeAnswer {
+    let DrawableCase {
+        row,
+        compression,
+        pointer_size,
+        ..
+    } = *case;
     let [expected, given] = [decode::count_marked, library::count_marked]
-        .map(|count| count(&case.file, &case.table, case.row, case.compression));
+        .map(|count| count(&case.file, &case.table, row, compression, pointer_size));
     assert_eq!(given, expected, "{}", case.summary());
     expected
 }
@@ -66,11 +79,12 @@ struct Seen {
     mixed: usize,
     /// Drawables of several tiles, the last of them cut, in both directions.
     ragged: usize,
-    /// Decoded drawables of each depth, of each compression and, where the
-    /// file is a valid one, of each version.
+    /// Decoded drawables of each depth, of each compression, of pointers of 4
+    /// and 8 bytes and, where the file is a valid one, of each version.
     depths: [usize; 5],
     compressions: [usize; 2],
-    versions: [usize; 4],
+    pointer_sizes: [usize; 2],
+    versions: [usize; VERSIONS.len()],
     /// Drawables in the last row of the table.
     last_rows: usize,
     /// Calls that only the lent pixels or marks refused, so that counting
@@ -93,21 +107,20 @@ impl Seen {
         self.ragged += usize::from(is_ragged(row[1]) && is_ragged(row[2]));
         self.depths[row[3] as usize] += 1;
         self.compressions[case.compression as usize] += 1;
+        self.pointer_sizes[case.pointer_size as usize / 8] += 1;
         self.last_rows += usize::from(case.row == 127);
         if case.kind == Kind::Read {
-            let tag = &case.file[9..13];
-            let version = [b"file", b"v001", b"v002", b"v003"]
-                .iter()
-                .position(|&t| t == tag);
-            self.versions[version.expect("a valid file")] += 1;
+            let version = of_tag(&case.file[9..14]).expect("a valid file");
+            let index = VERSIONS.iter().position(|&other| other == version);
+            self.versions[index.expect("one of them")] += 1;
         }
     }
 
     fn report(&self) {
         report(&format!(
             "drawables: {} good tiles, {} marked 20, {} marked 21, {} mixed, {} with several cut \
-             tiles both ways, {} in the last row, depths {:?}, compressions {:?}, versions {:?}, {} \
-             counted alone",
+             tiles both ways, {} in the last row, depths {:?}, compressions {:?}, pointers of 4 \
+             and 8 bytes {:?}, versions {:?}, {} counted alone",
             self.good,
             self.too_soon,
             self.overrun,
@@ -116,6 +129,7 @@ impl Seen {
             self.last_rows,
             &self.depths[1..],
             self.compressions,
+            self.pointer_sizes,
             self.versions,
             self.counted_alone
         ));
@@ -127,6 +141,7 @@ impl Seen {
         assert!(self.mixed >= 3_000 && self.ragged >= 1_500 && self.last_rows >= 2_500);
         assert!(self.depths[1..].iter().all(|&count| count >= 1_500));
         assert!(self.compressions.iter().all(|&count| count >= 3_000));
+        assert!(self.pointer_sizes.iter().all(|&count| count >= 6_000));
         assert!(self.versions.iter().all(|&count| count >= 1_500));
         assert!(self.counted_alone >= 700);
     }
@@ -186,6 +201,8 @@ fn assert_tallied(tally: &Tally<Kind>) {
         (Kind::Field, UNUSABLE),
         (Kind::RowNumber, UNUSABLE),
         (Kind::Compression, UNUSABLE),
+        (Kind::PointerSize, UNUSABLE),
+        (Kind::OtherSize, BAD_TILE_POINTER),
         (Kind::WrongLength, WRONG_LENGTH),
         (Kind::Pointer, BAD_TILE_POINTER),
     ] {

@@ -2,10 +2,11 @@
 //! tables, equal texts, what stands behind the listing among them.
 
 use xcf_compare::answer::{
-    BAD_TILE_POINTER, FILE_LIMIT, FILE_TOO_LONG, LIST_LIMIT, List, ListAnswer, TABLE_LENGTH,
-    WRONG_LENGTH,
+    BAD_TILE_POINTER, FILE_LIMIT, FILE_TOO_LONG, LIST_LIMIT, List, ListAnswer, PAST_END,
+    TABLE_LENGTH, WRONG_LENGTH,
 };
 use xcf_compare::cases::drawable::{self, Kind as DrawableKind};
+use xcf_compare::files::laid::version_11;
 use xcf_compare::files::{EXAMPLE, random_case};
 use xcf_compare::guard::Guarded;
 use xcf_compare::list::{TEXT_LENGTH, list, list_into};
@@ -43,6 +44,7 @@ fn files_agree() {
     let mut random = Random::new(SEED);
     let text = random.bytes(TEXT_LENGTH + 3);
     let (mut accepted, mut refused, mut unlisted, mut longest) = (0, 0, 0, 0);
+    let (mut version_11, mut far) = (0, 0);
     for _ in 0..FILES {
         let case = random_case(&mut random);
         let (answer, listing) = list_both(&case.file, &case.table, &text);
@@ -53,13 +55,17 @@ fn files_agree() {
         assert_printed(&case.file, &listing);
         accepted += usize::from(answer.refused == 0);
         refused += usize::from(answer.refused != 0);
+        version_11 += usize::from(listing.contains(" version 11 "));
+        far += usize::from(answer.at >= 1 << 32);
         longest = longest.max(listing.len());
     }
     report(&format!(
-        "list: {FILES} files, {accepted} accepted, {refused} refused, {unlisted} with a table of \
-         another length, a listing of {longest} bytes"
+        "list: {FILES} files, {accepted} accepted, {version_11} of them of version 11, {refused} \
+         refused, {far} of them beyond 32 bits, {unlisted} with a table of another length, a \
+         listing of {longest} bytes"
     ));
     assert!(accepted >= 2_000 && refused >= 2_000 && unlisted >= 50 && longest >= 8_000);
+    assert!(version_11 >= 600 && far >= 100);
 }
 
 /// The marked tiles of all rows are counted.
@@ -127,6 +133,27 @@ fn verdicts() {
         ..Default::default()
     };
     assert_eq!((answer, listing.as_str()), (verdict, "refused 13 at 133\n"));
+}
+
+/// In version 11 places have up to 20 digits.
+#[test]
+fn far_verdicts() {
+    let (table, text) = (vec![7; TABLE_LENGTH], vec![0xA5; TEXT_LENGTH]);
+    for (place, line) in [
+        (1 << 32, "refused 1 at 4294967296\n"),
+        (10_u64.pow(19), "refused 1 at 10000000000000000000\n"),
+        (u64::MAX, "refused 1 at 18446744073709551615\n"),
+    ] {
+        let file = version_11::with_pointers(&version_11::example(), &[(55, place)]);
+        let (answer, listing) = list_both(&file, &table, &text);
+        let verdict = ListAnswer {
+            refused: PAST_END,
+            at: place,
+            length: line.len() as u64,
+            ..Default::default()
+        };
+        assert_eq!((answer, listing.as_str()), (verdict, line));
+    }
 }
 
 /// The limit is the reader's, not the small program's.

@@ -5,7 +5,7 @@ use std::fs;
 use std::path::Path;
 
 use xcf_compare::files::EXAMPLE;
-use xcf_compare::files::laid::with;
+use xcf_compare::files::laid::{version_11, with};
 use xcf_compare::folder;
 use xcf_compare::list::list;
 use xcf_compare::list_cases::{ListCase, arguments, build, expected};
@@ -21,6 +21,13 @@ fn the_example() {
     // The tile is cut short.
     let marked = EXAMPLE_LISTING.replace("bad 0", "bad 1");
     assert_eq!(list(&EXAMPLE[..142]), marked);
+}
+
+#[test]
+fn the_example_in_version_11() {
+    let listing = "canvas 1 1 base 1 version 11 compression 1 rows 1\n\
+                   0 channel 1 1 1 2 83 1 85 161 1 255 1 0 0 0 0 bad 0\n";
+    assert_eq!(list(&version_11::example()), listing);
 }
 
 #[test]
@@ -67,6 +74,7 @@ fn every_number_is_there() {
         (13, 130),
         (15, 0),
         (16, 98),
+        (25, 26),
     ] {
         let given = listing(&cases, &format!("refused_{number:02}"));
         assert_eq!(given, format!("refused {number} at {place}\n"));
@@ -76,14 +84,36 @@ fn every_number_is_there() {
 #[test]
 fn every_version_is_there() {
     let cases = build();
-    for (version, base) in [(0, 0), (1, 2), (2, 1), (3, 0)] {
-        for (compression, how) in [(0, "plain"), (1, "encoded")] {
-            let given = listing(&cases, &format!("accepted_v{version}_{how}"));
-            let form = format!("base {base} version {version} compression {compression}");
-            assert!(given.starts_with(&format!("canvas 20 7 {form} rows ")));
-            assert_eq!(given.contains(" mask "), compression == 1);
-            assert!(given.lines().skip(1).all(|line| line.ends_with(" bad 0")));
-        }
+    for (version, base, compression) in [
+        (0, 0, 0),
+        (0, 0, 1),
+        (1, 2, 0),
+        (1, 2, 1),
+        (2, 1, 0),
+        (2, 1, 1),
+        (3, 0, 0),
+        (3, 0, 1),
+        (11, 2, 1),
+    ] {
+        let how = ["plain", "encoded"][compression];
+        let given = listing(&cases, &format!("accepted_v{version}_{how}"));
+        let form = format!("base {base} version {version} compression {compression}");
+        assert!(given.starts_with(&format!("canvas 20 7 {form} rows ")));
+        assert_eq!(given.contains(" mask "), compression == 1);
+        assert!(given.lines().skip(1).all(|line| line.ends_with(" bad 0")));
+    }
+}
+
+/// The places of pointers of 4 and of 8 bytes.
+#[test]
+fn far_pointers_are_there() {
+    let cases = build();
+    for (name, place) in [
+        ("far_pointer", 4_000_000_000),
+        ("last_place", 18_446_744_073_709_551_615_u64),
+    ] {
+        let given = listing(&cases, &format!("refused_{name}"));
+        assert_eq!(given, format!("refused 1 at {place}\n"));
     }
 }
 

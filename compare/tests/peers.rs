@@ -3,7 +3,8 @@
 
 use std::fs;
 
-use xcf_compare::answer::Row;
+use xcf_compare::answer::{DecodeAnswer, Row, TABLE_LENGTH};
+use xcf_compare::files::widened;
 use xcf_compare::gimp::{self, Facts, INDEXED_FILE, with_old_map_length, without_places};
 use xcf_compare::guard::difference;
 use xcf_compare::pictures::Content::{Mixed, Noise, White};
@@ -91,14 +92,18 @@ fn pictures() -> Vec<Picture> {
     vec![colours(), greys(), modes(), blank(), tiny(), empty()]
 }
 
-/// A folder with the files that the library writes of the pictures.
-fn written(pictures: &[Picture], name: &str) -> Scratch {
+/// The file that the library writes of a picture.
+fn write(picture: &Picture) -> Vec<u8> {
+    let (answer, mut output) = picture.case().write(library::write);
+    assert_eq!(answer.number, 0, "{}", picture.name);
+    output.lent()[..answer.length as usize].to_vec()
+}
+
+/// A folder with a file of each picture.
+fn written(pictures: &[Picture], name: &str, file: impl Fn(&Picture) -> Vec<u8>) -> Scratch {
     let scratch = Scratch::new(name);
     for picture in pictures {
-        let (answer, mut output) = picture.case().write(library::write);
-        assert_eq!(answer.number, 0, "{}", picture.name);
-        let file = &output.lent()[..answer.length as usize];
-        fs::write(scratch.file(picture.name, "xcf"), file).unwrap();
+        fs::write(scratch.file(picture.name, "xcf"), file(picture)).unwrap();
     }
     scratch
 }
@@ -142,15 +147,53 @@ fn gimp_opens_what_is_written() {
         return;
     }
     let pictures = pictures();
-    let scratch = written(&pictures, "gimp");
+    assert_all_found_by_gimp(&pictures, &written(&pictures, "gimp", write));
+    report_found("GIMP", &pictures, |_| true);
+}
+
+/// Asserts that GIMP finds each picture in its file.
+fn assert_all_found_by_gimp(pictures: &[Picture], scratch: &Scratch) {
     let files = pictures
         .iter()
         .map(|picture| scratch.file(picture.name, "xcf"));
-    open_in_gimp(&scratch, &files.collect::<Vec<_>>());
-    for picture in &pictures {
-        assert_found_by_gimp(picture, &scratch);
+    open_in_gimp(scratch, &files.collect::<Vec<_>>());
+    for picture in pictures {
+        assert_found_by_gimp(picture, scratch);
     }
-    report_found("GIMP", &pictures, |_| true);
+}
+
+/// The pictures in version 11, as the library reads them and as GIMP does: what
+/// was lent, all of it.
+#[test]
+fn gimp_opens_version_11() {
+    if !is_here("gimp") {
+        report("GIMP is not on this machine: no file of version 11 was opened in it");
+        return;
+    }
+    let pictures = pictures();
+    let file = |picture: &Picture| widened(&write(picture));
+    for picture in &pictures {
+        assert_found_by_library(picture, &file(picture));
+    }
+    assert_all_found_by_gimp(&pictures, &written(&pictures, "version-11", file));
+    report_found("GIMP, version 11", &pictures, |_| true);
+}
+
+/// Asserts that the library finds the picture's rows and pixels in a file of
+/// version 11.
+fn assert_found_by_library(picture: &Picture, file: &[u8]) {
+    let (name, mut table) = (picture.name, vec![0; TABLE_LENGTH]);
+    let answer = library::read(file, &mut table);
+    assert_eq!((answer.number, answer.version), (0, 11), "{name}");
+    let rows: &[Row] = table.as_chunks().0;
+    for (k, (lent, pixels)) in picture.rows().iter().zip(picture.drawables()).enumerate() {
+        assert_eq!(without_places(&rows[k]), without_places(lent), "{name}");
+        let mut found = vec![0xA5; pixels.len()];
+        let mut marks = vec![0xA5; lent[9] as usize];
+        let answer = library::decode(file, &table, k as u32, 1, 8, &mut found, &mut marks);
+        assert_eq!(answer, DecodeAnswer::decoded(0), "{name}");
+        assert_same(&found, pixels, &format!("{name}, row {k}"));
+    }
 }
 
 /// What the rules take, GIMP takes: in an indexed file with the length word of
@@ -242,7 +285,7 @@ fn image_magick_opens_what_is_written() {
     let mut pictures = pictures();
     // It opens no file without layers.
     pictures.retain(|picture| picture.rows().iter().any(is_layer));
-    let scratch = written(&pictures, "image-magick");
+    let scratch = written(&pictures, "image-magick", write);
     for picture in &pictures {
         assert_found_by_image_magick(picture, &scratch);
     }

@@ -1,6 +1,11 @@
 //! Compares the readers: equal answers, equal tables.
 
-use xcf_compare::answer::{FILE_LIMIT, FILE_TOO_LONG, NOT_XCF, ReadAnswer, Row, TABLE_LENGTH};
+use xcf_compare::answer::{
+    FILE_LIMIT, FILE_TOO_LONG, NOT_XCF, PAST_END, ReadAnswer, Row, TABLE_LENGTH,
+};
+use xcf_compare::files::block::set_number;
+use xcf_compare::files::laid::{END, version_11, with, with_byte, words};
+use xcf_compare::files::version::{pointer_size, tag};
 use xcf_compare::files::{EXAMPLE, FileCase, Kind, Known, random_case, random_file, table_of};
 use xcf_compare::guard::{Guarded, difference};
 use xcf_compare::implementation::agree;
@@ -10,10 +15,10 @@ use xcf_compare::tally::Tally;
 
 const FILES_SEED: u64 = 0x6669_6C65_7300_0001;
 const CUTS_SEED: u64 = 0x6375_7473_0000_0001;
-const FILE_CASES: usize = 60_000;
+const FILE_CASES: usize = 80_000;
 
 /// The refusals that a file of a usable length can meet.
-const NUMBERS: [u64; 14] = [1, 2, 3, 4, 5, 6, 7, 8, 9, 10, 11, 12, 13, 16];
+const NUMBERS: [u64; 15] = [1, 2, 3, 4, 5, 6, 7, 8, 9, 10, 11, 12, 13, 16, 25];
 
 /// Reads with all and asserts that they agree; gives the answer and the table.
 fn read_case(case: &FileCase) -> (ReadAnswer, Vec<u32>) {
@@ -42,7 +47,7 @@ fn files_agree() {
     let mut random = Random::new(FILES_SEED);
     let mut tally = Tally::default();
     let (mut known_cases, mut rows, mut full_tables) = (0, 0, 0);
-    let mut names = Names::default();
+    let (mut names, mut long) = (Names::default(), LongPointers::default());
     for _ in 0..FILE_CASES {
         let case = random_case(&mut random);
         let (answer, table) = read_case(&case);
@@ -51,6 +56,7 @@ fn files_agree() {
             known_cases += 1;
         }
         names.add(&case.file, &table[..16 * answer.rows as usize]);
+        long.add(answer);
         rows += answer.rows;
         full_tables += usize::from(answer.rows == 128);
         tally.add(case.kind, answer.number);
@@ -59,9 +65,10 @@ fn files_agree() {
     let accepted = tally.all(0);
     report(&format!(
         "read: {FILE_CASES} files, {accepted} accepted with {rows} rows, {known_cases} known \
-         beforehand, {full_tables} full tables, {names:?}"
+         beforehand, {full_tables} full tables, {names:?}, {long:?}"
     ));
     assert_varied(&tally);
+    assert!(long.accepted >= 4_000 && long.far >= 1_000 && long.near_last >= 100);
     assert!(known_cases >= 25_000 && rows >= 80_000 && full_tables >= 50);
     assert!(names.not_utf8 >= 5_000 && names.beyond_ascii >= 5_000 && names.ascii >= 5_000);
 }
@@ -87,6 +94,25 @@ impl Names {
             };
             *count += 1;
         }
+    }
+}
+
+/// What came of pointers of 8 bytes.
+#[derive(Debug, Default)]
+struct LongPointers {
+    accepted: usize,
+    /// Structures that are missed where no pointer of 4 bytes leads.
+    far: usize,
+    /// Of these, the ones in the last 16 places that there are.
+    near_last: usize,
+}
+
+impl LongPointers {
+    fn add(&mut self, answer: ReadAnswer) {
+        let is_missed = answer.number == PAST_END;
+        self.accepted += usize::from(answer.pointer_size == 8);
+        self.far += usize::from(is_missed && answer.place >= 1 << 32);
+        self.near_last += usize::from(is_missed && answer.place >= u64::MAX - 15);
     }
 }
 
@@ -126,22 +152,28 @@ fn file_case(file: Vec<u8>) -> FileCase {
     }
 }
 
+/// The example in both widths of pointers.
+fn examples() -> [Vec<u8>; 2] {
+    [EXAMPLE.to_vec(), version_11::example()]
+}
+
 /// The example with each of its bytes set to every value.
 #[test]
 fn every_byte_of_the_example_agrees() {
-    let mut tally = Tally::default();
-    for place in 0..EXAMPLE.len() {
-        for value in 0..=255 {
-            let mut file = EXAMPLE.to_vec();
-            file[place] = value;
-            let (answer, _) = read_case(&file_case(file));
-            tally.add(Kind::Byte, answer.number);
+    for example in examples() {
+        let mut tally = Tally::default();
+        for place in 0..example.len() {
+            for value in 0..=255 {
+                let file = with_byte(&example, place, value);
+                let (answer, _) = read_case(&file_case(file));
+                tally.add(Kind::Byte, answer.number);
+            }
         }
-    }
-    tally.report("every byte");
-    assert!(tally.all(0) >= 1_000 && tally.all(1) >= 1_000);
-    for number in [2, 3, 4, 5, 6, 7, 9, 10, 12, 13] {
-        assert!(tally.all(number) > 0, "{number}");
+        tally.report("every byte");
+        assert!(tally.all(0) >= 1_000 && tally.all(1) >= 1_000);
+        for number in [2, 3, 4, 5, 6, 7, 9, 10, 12, 13] {
+            assert!(tally.all(number) > 0, "{number}");
+        }
     }
 }
 
@@ -149,14 +181,33 @@ fn every_byte_of_the_example_agrees() {
 /// neighbours.
 #[test]
 fn every_word_of_the_example_agrees() {
-    let length = EXAMPLE.len() as u32;
-    let mut values = vec![16_383, 16_384, 16_385, 1 << 31, u32::MAX];
-    values.extend(0..30);
-    values.extend(length - 5..=length + 1);
-    for place in 0..EXAMPLE.len() - 3 {
-        for value in &values {
-            let mut file = EXAMPLE.to_vec();
-            file[place..place + 4].copy_from_slice(&value.to_be_bytes());
+    for example in examples() {
+        let length = example.len() as u32;
+        let mut values = vec![149, 150, 151, 16_383, 16_384, 16_385, 1 << 31, u32::MAX];
+        values.extend(0..30);
+        values.extend(length - 5..=length + 1);
+        for place in 0..example.len() - 3 {
+            for &value in &values {
+                read_case(&file_case(with(&example, &[(place, value)])));
+            }
+        }
+    }
+}
+
+/// Eight bytes of the example in version 11, at every place, set to numbers
+/// about the file's end, about the first of more than 32 bits and about the
+/// last of all, and to places with another high word.
+#[test]
+fn every_pointer_of_the_example_agrees() {
+    let example = version_11::example();
+    let length = example.len() as u64;
+    let about = |middle: u64| (middle - 9)..=middle.saturating_add(9);
+    let limits = [length, 1 << 32, 1 << 63, u64::MAX];
+    let mut values: Vec<u64> = limits.into_iter().flat_map(about).collect();
+    values.extend((0..length).map(|place| 1 << 32 | place));
+    for place in 0..example.len() - 7 {
+        for &value in &values {
+            let file = version_11::with_pointers(&example, &[(place, value)]);
             read_case(&file_case(file));
         }
     }
@@ -182,11 +233,11 @@ fn every_cut_agrees() {
     assert!(tally.all(1) >= 5_000 && tally.all(13) >= 500);
 }
 
-/// The example in front of so many zero bytes that the file has the length.
-fn padded_example(length: usize) -> Vec<u8> {
+/// An example in front of so many zero bytes that the file has the length.
+fn padded(example: &[u8], length: usize) -> Vec<u8> {
     // Memory that is zero from the start is not touched before it is used.
     let mut file = vec![0; length];
-    file[..EXAMPLE.len()].copy_from_slice(&EXAMPLE);
+    file[..example.len()].copy_from_slice(example);
     file
 }
 
@@ -204,9 +255,9 @@ fn read_long(file: &[u8], table_length: usize) -> (ReadAnswer, Vec<u32>) {
 
 /// A file is too long from one byte above the limit on; a table of the wrong
 /// length is found first, and both leave the table as lent.
-#[test]
-fn file_limit() {
-    let mut file = padded_example(FILE_LIMIT + 1);
+fn assert_limited(example: &[u8], size: usize, row: Row) {
+    let pointer = row[8] as usize;
+    let mut file = padded(example, FILE_LIMIT + 1);
     let (answer, table) = read_long(&file, TABLE_LENGTH);
     assert_eq!(answer, ReadAnswer::refused(FILE_TOO_LONG, 0));
     assert!(table == [0xA5A5_A5A5; TABLE_LENGTH]);
@@ -215,91 +266,146 @@ fn file_limit() {
     assert!(table == [0xA5A5_A5A5; TABLE_LENGTH - 1]);
     file.truncate(FILE_LIMIT);
     // The only tile may be the last byte.
-    file[133..137].copy_from_slice(&(FILE_LIMIT as u32 - 1).to_be_bytes());
-    let row = [3, 1, 1, 1, 2, 67, 1, 69, 133, 1, 255, 1, 0, 0, 0, 0];
+    set_number(&mut file, pointer, size, FILE_LIMIT as u64 - 1);
     let (answer, table) = read_long(&file, TABLE_LENGTH);
     assert_eq!((answer.number, answer.place, answer.rows), (0, 0, 1));
     assert_eq!(difference(&table, &table_of(&[row])), None);
-    file[133..137].copy_from_slice(&(FILE_LIMIT as u32).to_be_bytes());
+    set_number(&mut file, pointer, size, FILE_LIMIT as u64);
     let (answer, table) = read_long(&file, TABLE_LENGTH);
-    assert_eq!(answer, ReadAnswer::refused(13, 133));
+    assert_eq!(answer, ReadAnswer::refused(13, pointer as u64));
     assert!(table == [0; TABLE_LENGTH]);
     file[0] = 0;
     let (answer, _) = read_long(&file, TABLE_LENGTH);
     assert_eq!(answer, ReadAnswer::refused(NOT_XCF, 0));
 }
 
-/// Words as bytes.
-fn words(words: impl IntoIterator<Item = u32>) -> Vec<u8> {
-    words.into_iter().flat_map(u32::to_be_bytes).collect()
+#[test]
+fn file_limit() {
+    let row = [3, 1, 1, 1, 2, 67, 1, 69, 133, 1, 255, 1, 0, 0, 0, 0];
+    assert_limited(&EXAMPLE, 4, row);
+    let row = [3, 1, 1, 1, 2, 83, 1, 85, 161, 1, 255, 1, 0, 0, 0, 0];
+    assert_limited(&version_11::example(), 8, row);
 }
 
-/// A channel with the largest sides: 65,536 tile pointers, of which the first
-/// or the last may be bad.
-#[test]
-fn largest_sides() {
-    let mut file = EXAMPLE[..133].to_vec();
-    for place in [14, 18, 55, 59, 105, 109, 125, 129] {
-        file[place..place + 4].copy_from_slice(&16_384_u32.to_be_bytes());
-    }
-    file.extend(words(1..=65_536));
-    file.extend(words([0]));
+/// Pointers as bytes, so many for each.
+fn pointers(size: usize, numbers: impl IntoIterator<Item = u64>) -> Vec<u8> {
+    let bytes = |number: u64| number.to_be_bytes().into_iter().skip(8 - size);
+    numbers.into_iter().flat_map(bytes).collect()
+}
+
+/// An example with the largest sides, which stand at the places: 65,536 tile
+/// pointers, of which the first or the last may be bad.
+fn assert_largest(example: &[u8], size: usize, sides: [usize; 8]) {
+    let first = sides[7] + 4;
+    let mut file = with(&example[..first], &sides.map(|place| (place, 16_384)));
+    file.extend(pointers(size, 1..=65_536));
+    file.extend(pointers(size, [0]));
     let (answer, table) = read_case(&file_case(file.clone()));
     assert_eq!((answer.number, answer.width, answer.rows), (0, 16_384, 1));
-    assert_eq!(table[8..10], [133, 65_536]);
-    for (place, value) in [(133, 0), (262_273, 65_535), (262_277, 1)] {
-        let mut file = file.clone();
-        file[place..place + 4].copy_from_slice(&u32::to_be_bytes(value));
+    assert_eq!(table[8..10], [first as u32, 65_536]);
+    for (index, value) in [(0, 0), (65_535, 65_535), (65_536, 1)] {
+        let (mut file, place) = (file.clone(), first + size * index);
+        set_number(&mut file, place, size, value);
         let (answer, _) = read_case(&file_case(file));
-        assert_eq!(answer, ReadAnswer::refused(13, place));
+        assert_eq!(answer, ReadAnswer::refused(13, place as u64));
     }
 }
 
-/// A grey file with the largest sides that has all pointers lead to one
-/// layer, at 362, and to one channel, at 394, which is also the layer's mask;
-/// they share a hierarchy, at 418, and its level, at 438.
-fn most_shared() -> Vec<u8> {
-    let side = 16_384;
-    let mut file = b"gimp xcf file\0".to_vec();
-    file.extend(words([side, side, 1, 0, 0]));
-    file.extend(words([362; 48]));
-    file.extend(words([0]));
-    file.extend(words([394; 32]));
-    file.extend(words([0]));
-    file.extend(words([side, side, 2, 0, 0, 0, 418, 394]));
-    file.extend(words([side, side, 0, 0, 0, 418]));
-    file.extend(words([side, side, 1, 438, 0]));
-    file.extend(words([side, side]));
-    file.extend(words(1..=65_536));
-    file.extend(words([0]));
-    file
+#[test]
+fn largest_sides() {
+    assert_largest(&EXAMPLE, 4, [14, 18, 55, 59, 105, 109, 125, 129]);
+    let sides = [14, 18, 71, 75, 125, 129, 153, 157];
+    assert_largest(&version_11::example(), 8, sides);
 }
 
-/// The rows of `most_shared`: 48 layers, each with a mask, and 32 channels.
-fn most_shared_rows() -> Vec<Row> {
-    let row = |kind, place, flags, owner| {
+/// Where structures lie that all drawables share: one layer; one channel, which
+/// is also the layer's mask; the hierarchy and the level that both have.
+struct Shared {
+    version: u32,
+    layer: u64,
+    channel: u64,
+    hierarchy: u64,
+    level: u64,
+}
+
+const SHORT: Shared = Shared {
+    version: 0,
+    layer: 362,
+    channel: 394,
+    hierarchy: 418,
+    level: 438,
+};
+
+const LONG: Shared = Shared {
+    version: 11,
+    layer: 694,
+    channel: 734,
+    hierarchy: 762,
+    level: 790,
+};
+
+impl Shared {
+    /// A grey file with the largest sides that has all pointers lead to the
+    /// layer and to the channel.
+    fn file(&self) -> Vec<u8> {
+        let (size, sides) = (pointer_size(self.version), words(&[16_384; 2]));
+        let to = |place: u64| pointers(size, [place]);
+        let precision: &[u32] = if size == 8 { &[150] } else { &[] };
+        let image = [
+            &b"gimp xcf "[..],
+            &tag(self.version),
+            &sides,
+            &words(&[1]),
+            &words(precision),
+            &words(&END),
+            &to(self.layer).repeat(48),
+            &to(0),
+            &to(self.channel).repeat(32),
+            &to(0),
+        ];
+        let (layer, channel) = (words(&[2, 0, 0, 0]), words(&[0, 0, 0]));
+        let (below, above) = (to(self.hierarchy), to(self.level));
         [
-            kind, 16_384, 16_384, 1, 2, place, 0, place, 446, 65_536, 255, flags, 0, 0, 0, owner,
+            &image.concat(),
+            &[&sides[..], &layer, &below, &to(self.channel)].concat(),
+            &[&sides[..], &channel, &below].concat(),
+            &[&sides[..], &words(&[1]), &above, &to(0)].concat(),
+            &[&sides[..], &pointers(size, 1..=65_536), &to(0)].concat(),
         ]
-    };
-    let layers = (0..96).step_by(2);
-    let mut rows: Vec<Row> = layers
-        .flat_map(|owner| [row(1, 378, 3, owner), row(2, 406, 0, owner)])
-        .collect();
-    rows.extend((96..128).map(|own| row(3, 406, 0, own)));
-    rows
+        .map(|piece| piece.as_slice())
+        .concat()
+    }
+
+    /// The rows: 48 layers, each with a mask, and 32 channels.
+    fn rows(&self) -> Vec<Row> {
+        let row = |kind, name: u64, flags, owner| {
+            let [place, first] = [name, self.level + 8].map(|place| place as u32);
+            [
+                kind, 16_384, 16_384, 1, 2, place, 0, place, first, 65_536, 255, flags, 0, 0, 0,
+                owner,
+            ]
+        };
+        let layer = |owner| row(1, self.layer + 16, 3, owner);
+        let channel = |kind, owner| row(kind, self.channel + 12, 0, owner);
+        let layers = (0..96).step_by(2);
+        let layers = layers.flat_map(|owner| [layer(owner), channel(2, owner)]);
+        layers.chain((96..128).map(|own| channel(3, own))).collect()
+    }
 }
 
 /// The most rows with the most tiles in a small file: all 128 walk over the
 /// same 65,536 tile pointers.
 #[test]
 fn most_sharing() {
-    let case = file_case(most_shared());
-    assert_eq!(case.file.len(), 262_594);
-    let (answer, table) = read_case(&case);
-    let known = Known {
-        answer: ReadAnswer::accepted([16_384, 16_384, 1, 0, 0], 128),
-        rows: most_shared_rows(),
-    };
-    assert_known(&case, &known, answer, &table);
+    for (shared, length) in [(SHORT, 262_594), (LONG, 525_094)] {
+        let case = file_case(shared.file());
+        assert_eq!(case.file.len(), length);
+        let (answer, table) = read_case(&case);
+        let image = [16_384, 16_384, 1, shared.version.into(), 0];
+        let known = Known {
+            answer: ReadAnswer::accepted(image, 128),
+            rows: shared.rows(),
+        };
+        assert_known(&case, &known, answer, &table);
+    }
 }

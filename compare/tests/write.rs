@@ -5,8 +5,9 @@ use xcf_compare::answer::{
     BAD_BASE, BAD_SIDE, DecodeAnswer, DecodeDrawable, OUTPUT_TOO_SHORT, ReadAnswer, Row,
     TABLE_LENGTH, UNUSABLE_ROW, WRONG_LENGTH, WriteAnswer,
 };
+use xcf_compare::files::widened;
 use xcf_compare::guard::difference;
-use xcf_compare::implementation::{ALL, agree};
+use xcf_compare::implementation::{ALL, Implementation, agree};
 use xcf_compare::random::Random;
 use xcf_compare::tables::{Fault, Kind, TableCase, random_case, valid_case};
 use xcf_compare::tally::Tally;
@@ -16,6 +17,7 @@ const SEED: u64 = 0x7772_6974_6500_0001;
 const REFERENCE_SEED: u64 = 0x7772_6974_6500_0002;
 const CASES: usize = 20_000;
 const REFERENCE_CASES: usize = 2_000;
+const LONG_CASES: usize = 1_000;
 
 /// The refusals that the writer can meet.
 const NUMBERS: [u64; 5] = [
@@ -74,6 +76,7 @@ fn answer_to_reading(case: &TableCase) -> ReadAnswer {
         version: if is_new { 2 } else { 0 },
         compression: 1,
         rows: case.used() as u64,
+        pointer_size: 4,
     }
 }
 
@@ -104,12 +107,61 @@ fn assert_same_pixels(case: &TableCase, file: &[u8], table: &[u32], decode: Deco
         rest = later;
         let mut pixels = vec![0xA5; expected.len()];
         let mut marks = vec![0xA5; row[9] as usize];
-        let answer = decode(file, table, index as u32, 1, &mut pixels, &mut marks);
+        let answer = decode(file, table, index as u32, 1, 4, &mut pixels, &mut marks);
         assert_eq!(answer, DecodeAnswer::decoded(0), "{}", case.summary());
         assert!(marks.iter().all(|&mark| mark == 0), "{}", case.summary());
         assert_eq!(difference(&pixels, expected), None, "{}", case.summary());
     }
     assert!(rest.is_empty(), "{}", case.summary());
+}
+
+/// What is read of a picture in version 11 is written like any other: with its
+/// places set to 0, and the file itself for names, all write the same file.
+#[test]
+fn rows_of_version_11_are_written() {
+    let mut random = Random::new(SEED ^ 11);
+    let mut rows = 0;
+    for _ in 0..LONG_CASES {
+        let case = valid_case(&mut random);
+        let known = case.known.as_ref().expect("what is written");
+        let file = widened(&known.file);
+        for by in ALL {
+            let lent = read_again(&case, &file, &by);
+            let (answer, mut output) = lent.write(by.write);
+            assert_eq!(answer, known.answer, "{}", case.summary());
+            let written = &output.lent()[..known.file.len()];
+            assert_eq!(difference(written, &known.file), None, "{}", case.summary());
+        }
+        rows += case.used();
+    }
+    report(&format!(
+        "written: {rows} rows that were read in version 11"
+    ));
+    assert!(rows >= 2_000);
+}
+
+/// The call that writes what reading and decoding a file of version 11 gives.
+fn read_again(case: &TableCase, file: &[u8], by: &Implementation) -> TableCase {
+    let mut table = vec![0xA5A5_A5A5; TABLE_LENGTH];
+    let answer = (by.read)(file, &mut table);
+    assert_eq!((answer.version, answer.pointer_size), (11, 8));
+    let mut pixels = Vec::new();
+    for (index, row) in case.rows()[..case.used()].iter().enumerate() {
+        let mut decoded = vec![0xA5; (row[1] * row[2] * row[3]) as usize];
+        let mut marks = vec![0xA5; row[9] as usize];
+        let answer = (by.decode)(file, &table, index as u32, 1, 8, &mut decoded, &mut marks);
+        assert_eq!(answer, DecodeAnswer::decoded(0), "{}", case.summary());
+        pixels.extend(decoded);
+    }
+    for row in table.chunks_mut(16) {
+        [row[7], row[8]] = [0, 0];
+    }
+    TableCase {
+        table,
+        names: file.to_vec(),
+        pixels,
+        ..case.clone()
+    }
 }
 
 /// What was seen in the files that were written.

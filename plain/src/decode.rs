@@ -1,22 +1,22 @@
 //! A drawable decoded: each tile into a buffer of its own, and its lines copied
 //! from there.
 
-use crate::pointers::{first_bad, word};
+use crate::pointers::{first_bad, pointer};
 use crate::row::{Row, is_side, pixels_length, rows, tile_count};
 use crate::tile::{SIDE, decode_tile};
 use crate::{FILE_LIMIT, Fault, Refusal};
 
-/// A usable row, and the words of its level.
-struct Drawable<'a> {
+/// A usable row, and the pointers of its level, of `N` bytes each.
+struct Drawable<'a, const N: usize> {
     width: usize,
     height: usize,
     depth: usize,
     place: usize,
-    pointers: &'a [[u8; 4]],
-    closing: [u8; 4],
+    pointers: &'a [[u8; N]],
+    closing: [u8; N],
 }
 
-impl<'a> Drawable<'a> {
+impl<'a, const N: usize> Drawable<'a, N> {
     /// None where the row is unusable.
     fn new(file: &'a [u8], row: &Row) -> Option<Self> {
         let &[kind, width, height, depth, _, _, _, _, place, count, ..] = row;
@@ -29,8 +29,8 @@ impl<'a> Drawable<'a> {
             return None;
         }
         let [width, height, depth, place] = [width, height, depth, place].map(|n| n as usize);
-        let (words, _) = file.get(place..)?.as_chunks();
-        let (&closing, pointers) = words.get(..=count as usize)?.split_last()?;
+        let (pointers, _) = file.get(place..)?.as_chunks();
+        let (&closing, pointers) = pointers.get(..=count as usize)?.split_last()?;
         Some(Drawable {
             width,
             height,
@@ -43,14 +43,14 @@ impl<'a> Drawable<'a> {
 
     /// The place of the lowest bad word, if there is one.
     fn bad_word(&self, file_length: usize) -> Option<usize> {
-        let closing = (self.closing != [0; 4]).then_some(self.pointers.len());
+        let closing = (self.closing != [0; N]).then_some(self.pointers.len());
         let bad = first_bad(self.pointers, file_length).or(closing);
-        bad.map(|index| self.place + 4 * index)
+        bad.map(|index| self.place + N * index)
     }
 
     /// The window of a tile; longer ones are cut where they are decoded.
     fn window(&self, file: &'a [u8], tile: usize) -> &'a [u8] {
-        let place = |bytes| word(bytes) as usize;
+        let place = |bytes| pointer(bytes) as usize;
         let end = self.pointers.get(tile + 1).map_or(file.len(), place);
         &file[place(&self.pointers[tile])..end]
     }
@@ -91,13 +91,32 @@ impl<'a> Drawable<'a> {
     }
 }
 
+/// Decodes the drawable of a row whose pointers have `N` bytes.
+fn decode_row<const N: usize>(
+    file: &[u8],
+    row: &Row,
+    compression: u32,
+    pixels: &mut [u8],
+    marks: &mut [u8],
+) -> Result<usize, Refusal> {
+    let drawable = Drawable::<N>::new(file, row).ok_or(Fault::Unusable.at(0))?;
+    Fault::WrongLength.unless(pixels.len() == pixels_length(row))?;
+    Fault::WrongLength.unless(marks.len() == drawable.pointers.len())?;
+    match drawable.bad_word(file.len()) {
+        Some(place) => Err(Fault::BadTilePointer.at(place)),
+        None => drawable.decode(file, compression, pixels, marks),
+    }
+}
+
 /// Decodes the drawable of a row into its pixels, and a mark for each tile;
-/// gives how many tiles are marked. Neither table nor compression is trusted.
+/// gives how many tiles are marked. Neither table nor compression nor pointer
+/// size is trusted.
 pub fn decode(
     file: &[u8],
     table: &[u32],
     row: u32,
     compression: u32,
+    pointer_size: u32,
     pixels: &mut [u8],
     marks: &mut [u8],
 ) -> Result<usize, Refusal> {
@@ -105,11 +124,9 @@ pub fn decode(
     Fault::FileTooLong.unless(file.len() <= FILE_LIMIT)?;
     Fault::Unusable.unless(compression <= 1)?;
     let row = rows.get(row as usize).ok_or(Fault::Unusable.at(0))?;
-    let drawable = Drawable::new(file, row).ok_or(Fault::Unusable.at(0))?;
-    Fault::WrongLength.unless(pixels.len() == pixels_length(row))?;
-    Fault::WrongLength.unless(marks.len() == drawable.pointers.len())?;
-    match drawable.bad_word(file.len()) {
-        Some(place) => Err(Fault::BadTilePointer.at(place)),
-        None => drawable.decode(file, compression, pixels, marks),
+    match pointer_size {
+        4 => decode_row::<4>(file, row, compression, pixels, marks),
+        8 => decode_row::<8>(file, row, compression, pixels, marks),
+        _ => Err(Fault::Unusable.at(0)),
     }
 }

@@ -21,19 +21,23 @@ pub enum Fault {
     FloatingSelection = 16,
     UnusableRow = 17,
     OutputTooShort = 18,
+    BadPrecision = 25,
 }
 
 /// A fault, and where it stands.
 #[derive(Clone, Copy, Debug, PartialEq, Eq)]
 pub struct Refusal {
     pub fault: Fault,
-    pub place: usize,
+    pub place: u64,
 }
 
 impl Fault {
     /// A refusal for this fault at the place.
     pub(crate) fn at(self, place: usize) -> Refusal {
-        Refusal { fault: self, place }
+        Refusal {
+            fault: self,
+            place: place as u64,
+        }
     }
 
     /// A refusal for this fault, unless something holds.

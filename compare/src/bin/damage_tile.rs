@@ -40,7 +40,9 @@ fn overwrite(file: &mut [u8], row: u32, tile: usize) -> Result<(), String> {
     if answer.compression == 0 {
         return Err("its tiles are plain".to_string());
     }
-    let drawable = Drawable::new(file, &table, row, 1).map_err(|_| "no such row")?;
+    let [compression, pointer_size] = answer.form();
+    let drawable = Drawable::new(file, &table, row, compression, pointer_size);
+    let drawable = drawable.map_err(|_| "no such row")?;
     let windows = drawable.windows(file).map_err(|_| "bad tile pointers")?;
     let window = windows.get(tile).ok_or("no such tile")?.clone();
     let start = file[window].get_mut(..OVERRUN.len());

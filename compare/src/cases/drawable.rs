@@ -7,6 +7,7 @@ use super::Shape;
 use super::decode;
 use super::encode::random_pixels;
 use crate::answer::{ROW_LENGTH, Row, TABLE_LENGTH};
+use crate::files::block::set_number;
 use crate::files::drawable::{tile_count, tile_shape};
 use crate::files::{decodable_file, random_table, table_of};
 use crate::random::Random;
@@ -27,6 +28,10 @@ pub enum Kind {
     RowNumber,
     /// A compression above 1.
     Compression,
+    /// A pointer size that is neither 4 nor 8.
+    PointerSize,
+    /// The pointer size that the tile pointers do not have.
+    OtherSize,
     /// A table, pixels or marks of the wrong length.
     WrongLength,
     /// A tile pointer, or the word that closes them, that breaks its rule.
@@ -46,6 +51,7 @@ pub struct DrawableCase {
     pub table: Vec<u32>,
     pub row: u32,
     pub compression: u32,
+    pub pointer_size: u32,
     /// The lent pixels as they are before the call.
     pub pixels: Vec<u8>,
     /// The lent marks as they are before the call.
@@ -59,13 +65,14 @@ impl DrawableCase {
     /// The case in a line, with only the file's first bytes.
     pub fn summary(&self) -> String {
         format!(
-            "{:?}: row {} {:?} of {} numbers, compression {}, {} and {} lent bytes, file of {} \
-             bytes {:02X?}",
+            "{:?}: row {} {:?} of {} numbers, compression {}, pointer size {}, {} and {} lent \
+             bytes, file of {} bytes {:02X?}",
             self.kind,
             self.row,
             self.row_numbers(),
             self.table.len(),
             self.compression,
+            self.pointer_size,
             self.pixels.len(),
             self.marks.len(),
             self.file.len(),
@@ -83,18 +90,19 @@ impl DrawableCase {
 struct Base {
     case: DrawableCase,
     shape: Shape,
-    /// Where the tile pointers begin.
+    /// Where the tile pointers begin, and how many bytes each has.
     place: usize,
+    size: usize,
 }
 
 impl Base {
-    /// A call for a row of the table.
+    /// A call for a row of the table, with its compression and pointer size.
     fn new(
         random: &mut Random,
         file: Vec<u8>,
         table: Vec<u32>,
         row: usize,
-        compression: u32,
+        [compression, pointer_size]: [u32; 2],
     ) -> Self {
         let numbers = &table[row * ROW_LENGTH..][..ROW_LENGTH];
         let shape = Shape::new(numbers[1], numbers[2], numbers[3]);
@@ -106,12 +114,14 @@ impl Base {
                 table,
                 row: row as u32,
                 compression,
+                pointer_size,
                 pixels: random.bytes(shape.pixels_length()),
                 marks: random.bytes(tile_count(shape)),
                 known: Some((0, 0)),
             },
             shape,
             place,
+            size: pointer_size as usize,
         }
     }
 
@@ -123,12 +133,13 @@ impl Base {
         }
         let table = table_of(&built.known.rows);
         let row = random.below(built.known.rows.len());
-        let stored = built.known.answer.compression as u32;
+        let [stored, pointer_size] = built.known.answer.form();
         let compression = match random.below(8) {
             0 => 1 - stored,
             _ => stored,
         };
-        let mut base = Base::new(random, built.bytes, table, row, compression);
+        let form = [compression, pointer_size];
+        let mut base = Base::new(random, built.bytes, table, row, form);
         if random.one_in(2) {
             base.move_row(random);
         }
@@ -148,23 +159,28 @@ impl Base {
     /// A row of any kind and depth, for tiles among bytes that are no file.
     fn loose(random: &mut Random) -> Self {
         let shape = loose_shape(random);
-        let compression = random.below(2) as u32;
-        let (file, place) = loose_file(random, shape, compression);
+        let form = [random.below(2) as u32, random.pick(&[4, 8])];
+        let (file, place) = loose_file(random, shape, form);
         let mut row: Row = random_table(random, ROW_LENGTH)
             .try_into()
             .expect("as long as a row");
         row[0] = random.between(1, 3) as u32;
         [row[1], row[2], row[3]] = [shape.width, shape.height, shape.depth];
         [row[8], row[9]] = [place as u32, tile_count(shape) as u32];
-        let mut base = Base::new(random, file, table_of(&[row]), 0, compression);
+        let mut base = Base::new(random, file, table_of(&[row]), 0, form);
         base.move_row(random);
         base
+    }
+
+    /// Bytes in the tile pointers and the zero that closes them.
+    fn pointers_length(&self) -> usize {
+        self.size * (tile_count(self.shape) + 1)
     }
 
     /// Changes a few bytes anywhere but in the tile pointers.
     fn damage(&mut self, random: &mut Random) {
         const NOTABLE: [u8; 8] = [0, 1, 63, 126, 127, 128, 129, 255];
-        let pointers = self.place..self.place + 4 * (tile_count(self.shape) + 1);
+        let pointers = self.place..self.place + self.pointers_length();
         for _ in 0..random.between(1, 20) {
             let place = random.below(self.case.file.len());
             if !pointers.contains(&place) {
@@ -187,8 +203,13 @@ fn loose_shape(random: &mut Random) -> Shape {
     Shape::new(width, height, random.between(1, 4) as u32)
 }
 
-/// Tiles, and before or behind them their pointers, whose place is given.
-fn loose_file(random: &mut Random, shape: Shape, compression: u32) -> (Vec<u8>, usize) {
+/// Tiles of the compression, and before or behind them their pointers of the
+/// size, whose place is given.
+fn loose_file(
+    random: &mut Random,
+    shape: Shape,
+    [compression, pointer_size]: [u32; 2],
+) -> (Vec<u8>, usize) {
     let length = random.between(1, 40);
     let mut file = random.bytes(length);
     let tiles: Vec<Vec<u8>> = (0..tile_count(shape))
@@ -196,16 +217,16 @@ fn loose_file(random: &mut Random, shape: Shape, compression: u32) -> (Vec<u8>, 
         .collect();
     let tiles_length: usize = tiles.iter().map(Vec::len).sum();
     let pointers_first = random.one_in(2);
+    let size = pointer_size as usize;
+    let mut pointers = vec![0; size * (tiles.len() + 1)];
     let (place, mut start) = match pointers_first {
-        true => (length, length + 4 * (tiles.len() + 1)),
+        true => (length, length + pointers.len()),
         false => (length + tiles_length, length),
     };
-    let mut pointers = Vec::new();
-    for tile in &tiles {
-        pointers.extend((start as u32).to_be_bytes());
+    for (i, tile) in tiles.iter().enumerate() {
+        set_number(&mut pointers, size * i, size, start as u64);
         start += tile.len();
     }
-    pointers.extend([0; 4]);
     file.extend(match pointers_first {
         true => [pointers, tiles.concat()].concat(),
         false => [tiles.concat(), pointers].concat(),
@@ -246,15 +267,17 @@ pub fn random_window(random: &mut Random, shape: Shape, compression: u32) -> Vec
 
 /// A case of any kind.
 pub fn random_case(random: &mut Random) -> DrawableCase {
-    let kind = match random.below(20) {
-        0..=5 => Kind::Read,
-        6 | 7 => Kind::Damaged,
-        8..=10 => Kind::Loose,
-        11 | 12 => Kind::Field,
-        13 => Kind::RowNumber,
-        14 => Kind::Compression,
-        15 => Kind::WrongLength,
-        16 | 17 => Kind::Pointer,
+    let kind = match random.below(24) {
+        0..=6 => Kind::Read,
+        7 | 8 => Kind::Damaged,
+        9..=11 => Kind::Loose,
+        12 | 13 => Kind::Field,
+        14 => Kind::RowNumber,
+        15 => Kind::Compression,
+        16 => Kind::PointerSize,
+        17 => Kind::OtherSize,
+        18 => Kind::WrongLength,
+        19..=21 => Kind::Pointer,
         _ => Kind::Several,
     };
     case(random, kind)

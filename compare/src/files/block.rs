@@ -1,6 +1,7 @@
 //! The structures of a file as blocks of bytes that know where their fields
 //! lie and which blocks they point to; and blocks laid out as a file.
 
+use super::version::pointer_size;
 use crate::random::Random;
 
 /// What a field is.
@@ -10,6 +11,7 @@ pub enum FieldKind {
     Version,
     CanvasSide,
     Base,
+    Precision,
     LayerSide,
     LayerType,
     /// A side of a channel or mask, which must equal its owner's.
@@ -22,14 +24,20 @@ pub enum FieldKind {
     MapType,
     MapLength,
     MapCount,
-    /// The type word, in a layer's list, of a property of four bytes.
-    LayerWordType,
+    /// The type word, in a layer's list, of a property as long as one of type 5
+    /// may be.
+    FloatingType,
+    /// The type word of a property of eight bytes where one of type 5 may not
+    /// have so many.
+    LongType,
     /// Any other type word but a list's last.
     PropertyType,
     /// The type word 0 that ends a list.
     ListEnd,
     /// The length of a type that allows only one.
     FixedLength,
+    /// The length of type 5, which may allow two.
+    FloatingLength,
     /// The length of a type that is skipped by its length.
     FreeLength,
     Compression,
@@ -51,13 +59,14 @@ pub enum FieldKind {
     HierarchySide,
     Depth,
     LevelPointer,
-    /// A word behind the first level pointer.
-    FurtherWord,
+    /// A pointer behind the first level pointer.
+    FurtherLevel,
     HierarchyEnd,
     LevelSide,
     FirstTile,
     NextTile,
-    ClosingWord,
+    /// The 0 behind the tile pointers.
+    ClosingZero,
 }
 
 /// A field and where it lies.
@@ -68,16 +77,29 @@ pub struct Field {
     pub length: usize,
 }
 
-/// A word that takes the place, in the file, of a byte of another block.
+impl Field {
+    /// The number that the field's bytes are.
+    pub fn number(&self, bytes: &[u8]) -> u64 {
+        number_at(bytes, self.place, self.length)
+    }
+
+    /// Writes a number over the field, as far as there are bytes.
+    pub fn set(&self, bytes: &mut [u8], value: u64) {
+        set_number(bytes, self.place, self.length, value);
+    }
+}
+
+/// A pointer that takes the place, in the file, of a byte of another block.
 struct Pointer {
     place: usize,
     block: usize,
     offset: usize,
 }
 
-/// A structure, with places counted from its own start.
+/// A structure of a version, with places counted from its own start.
 #[derive(Default)]
 pub struct Block {
+    pub version: u32,
     pub bytes: Vec<u8>,
     fields: Vec<Field>,
     pointers: Vec<Pointer>,
@@ -86,6 +108,17 @@ pub struct Block {
 }
 
 impl Block {
+    pub fn new(version: u32) -> Self {
+        Block {
+            version,
+            ..Default::default()
+        }
+    }
+
+    fn pointer_size(&self) -> usize {
+        pointer_size(self.version)
+    }
+
     pub fn push(&mut self, kind: FieldKind, bytes: &[u8]) {
         self.fields.push(Field {
             kind,
@@ -99,14 +132,20 @@ impl Block {
         self.push(kind, &value.to_be_bytes());
     }
 
+    /// A pointer that has the value.
+    pub fn pointer(&mut self, kind: FieldKind, value: u64) {
+        let unused = 8 - self.pointer_size();
+        self.push(kind, &value.to_be_bytes()[unused..]);
+    }
+
     /// A pointer to the byte at `offset` in a block.
-    pub fn pointer(&mut self, kind: FieldKind, block: usize, offset: usize) {
+    pub fn pointer_to(&mut self, kind: FieldKind, block: usize, offset: usize) {
         self.pointers.push(Pointer {
             place: self.bytes.len(),
             block,
             offset,
         });
-        self.word(kind, 0);
+        self.pointer(kind, 0);
     }
 }
 
@@ -144,14 +183,15 @@ impl Layout {
     /// Writes the pointers of a block that has its place, and takes over its
     /// fields.
     fn finish(&mut self, random: &mut Random, index: usize, block: &Block) {
-        let start = self.starts[index];
+        let (start, size) = (self.starts[index], block.pointer_size());
         for pointer in &block.pointers {
             let value = self.starts[pointer.block] + pointer.offset;
-            set_word(&mut self.bytes, start + pointer.place, value as u32);
+            set_number(&mut self.bytes, start + pointer.place, size, value as u64);
         }
         if let Some((place, count)) = block.free_tiles {
             for (i, value) in ascending(random, count, self.bytes.len()).enumerate() {
-                set_word(&mut self.bytes, start + place + 4 * i, value as u32);
+                let place = start + place + size * i;
+                set_number(&mut self.bytes, place, size, value as u64);
             }
         }
         self.fields.extend(block.fields.iter().map(|field| Field {
@@ -186,12 +226,26 @@ fn ascending(random: &mut Random, count: usize, limit: usize) -> impl Iterator<I
 
 /// The word at `place`.
 pub fn word_at(bytes: &[u8], place: usize) -> u32 {
-    u32::from_be_bytes(bytes[place..place + 4].try_into().expect("four bytes"))
+    number_at(bytes, place, 4) as u32
 }
 
 /// Writes a word over the bytes at `place`, as far as there are any.
 pub fn set_word(bytes: &mut [u8], place: usize, value: u32) {
-    for (byte, new) in bytes.iter_mut().skip(place).zip(value.to_be_bytes()) {
+    set_number(bytes, place, 4, value.into());
+}
+
+/// The number of so many bytes, at most eight, at `place`.
+pub fn number_at(bytes: &[u8], place: usize, size: usize) -> u64 {
+    let mut all = [0; 8];
+    all[8 - size..].copy_from_slice(&bytes[place..place + size]);
+    u64::from_be_bytes(all)
+}
+
+/// Writes the low bytes of a number, as many as are asked for, over those at
+/// `place`, as far as there are any.
+pub fn set_number(bytes: &mut [u8], place: usize, size: usize, value: u64) {
+    let new = value.to_be_bytes().into_iter().skip(8 - size);
+    for (byte, new) in bytes.iter_mut().skip(place).zip(new) {
         *byte = new;
     }
 }

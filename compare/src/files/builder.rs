@@ -4,6 +4,7 @@
 use super::block::{Block, Field, FieldKind, Layout};
 use super::drawable::{Drawable, tile_count, tile_shape};
 use super::property::{Owner, Property, last, push_list, random_list};
+use super::version::{PRECISION, VERSIONS, has_precision, pointer_size, tag};
 use super::{DEPTHS, Known};
 use crate::answer::ReadAnswer;
 use crate::cases::Shape;
@@ -14,9 +15,6 @@ use crate::random::Random;
 // These are not shared with the reference: a mistake there must not be one in
 // the files that test it.
 const MAGIC: &[u8] = b"gimp xcf ";
-/// The tags of the versions 0 to 3.
-pub const VERSIONS: [&[u8]; 4] = [b"file\0", b"v001\0", b"v002\0", b"v003\0"];
-
 const MOST_LAYERS: usize = 48;
 const MOST_CHANNELS: usize = 32;
 
@@ -111,9 +109,11 @@ pub fn random_sides(random: &mut Random) -> (u32, u32) {
 impl Builder {
     fn new(random: &mut Random, content: Content) -> Self {
         let (width, height) = random_sides(random);
-        let version = random.below(4) as u32;
+        // A third has long pointers.
+        let short = random.pick(&VERSIONS[..4]);
+        let version = random.pick(&[short, short, 11]);
         let base = random.below(if version == 0 { 2 } else { 3 }) as u32;
-        let mut properties = random_list(random, Owner::Image);
+        let mut properties = random_list(random, Owner::Image, version);
         if base == 2 {
             let place = random.below(properties.len() + 1);
             properties.insert(place, Property::colour_map(random));
@@ -124,7 +124,7 @@ impl Builder {
         }
         Builder {
             content,
-            blocks: vec![Block::default()],
+            blocks: vec![Block::new(version)],
             drawables: Vec::new(),
             hierarchies: Vec::new(),
             width,
@@ -152,7 +152,7 @@ impl Builder {
             .one_in(2)
             .then(|| self.add_channel(random, width, height));
         let layer_type = self.base * 2 + random.below(2) as u32;
-        let mut block = Block::default();
+        let mut block = Block::new(self.version);
         block.word(FieldKind::LayerSide, width);
         block.word(FieldKind::LayerSide, height);
         block.word(FieldKind::LayerType, layer_type);
@@ -160,8 +160,8 @@ impl Builder {
         let layer = self.finish_drawable(random, block, shape, Owner::Layer);
         let block = &mut self.blocks[self.drawables[layer].block];
         match mask {
-            Some(mask) => block.pointer(FieldKind::MaskPointer, self.drawables[mask].block, 0),
-            None => block.word(FieldKind::NoMask, 0),
+            Some(mask) => block.pointer_to(FieldKind::MaskPointer, self.drawables[mask].block, 0),
+            None => block.pointer(FieldKind::NoMask, 0),
         }
         self.drawables[layer].layer_type = layer_type;
         self.drawables[layer].mask = mask;
@@ -177,7 +177,7 @@ impl Builder {
         {
             return shared;
         }
-        let mut block = Block::default();
+        let mut block = Block::new(self.version);
         block.word(FieldKind::OwnedSide, width);
         block.word(FieldKind::OwnedSide, height);
         self.finish_drawable(random, block, shape, Owner::Channel)
@@ -195,10 +195,10 @@ impl Builder {
         let name_offset = block.bytes.len() + 4;
         let name = push_name(random, &mut block);
         let properties_offset = block.bytes.len();
-        let properties = random_list(random, owner);
+        let properties = random_list(random, owner, self.version);
         push_list(&mut block, owner, &properties);
         let (hierarchy, level) = self.add_hierarchy(random, shape);
-        block.pointer(FieldKind::HierarchyPointer, hierarchy, 0);
+        block.pointer_to(FieldKind::HierarchyPointer, hierarchy, 0);
         let block = self.add_block(block);
         self.drawables.push(Drawable {
             owner,
@@ -225,15 +225,18 @@ impl Builder {
             return (shared.block, shared.level);
         }
         let level = self.add_level(random, shape);
-        let mut block = Block::default();
+        let mut block = Block::new(self.version);
         block.word(FieldKind::HierarchySide, shape.width);
         block.word(FieldKind::HierarchySide, shape.height);
         block.word(FieldKind::Depth, shape.depth);
-        block.pointer(FieldKind::LevelPointer, level, 0);
+        block.pointer_to(FieldKind::LevelPointer, level, 0);
         for _ in 0..random.pick(&[0, 0, 1, 2, 5]) {
-            block.word(FieldKind::FurtherWord, random.word() as u32 | 1);
+            block.pointer(
+                FieldKind::FurtherLevel,
+                random_further(random, self.version),
+            );
         }
-        block.word(FieldKind::HierarchyEnd, 0);
+        block.pointer(FieldKind::HierarchyEnd, 0);
         let block = self.add_block(block);
         self.hierarchies.push(Hierarchy {
             shape,
@@ -252,11 +255,11 @@ impl Builder {
         {
             return shared.level;
         }
-        let mut block = Block::default();
+        let mut block = Block::new(self.version);
         block.word(FieldKind::LevelSide, shape.width);
         block.word(FieldKind::LevelSide, shape.height);
         self.push_tile_pointers(random, &mut block, shape);
-        block.word(FieldKind::ClosingWord, 0);
+        block.pointer(FieldKind::ClosingZero, 0);
         self.add_block(block)
     }
 
@@ -268,16 +271,16 @@ impl Builder {
         if is_free {
             level.free_tiles = Some((level.bytes.len(), count));
         }
-        let mut tiles = Block::default();
+        let mut tiles = Block::new(self.version);
         for i in 0..count {
             let kind = match i {
                 0 => FieldKind::FirstTile,
                 _ => FieldKind::NextTile,
             };
             if is_free {
-                level.word(kind, 0);
+                level.pointer(kind, 0);
             } else {
-                level.pointer(kind, self.blocks.len(), tiles.bytes.len());
+                level.pointer_to(kind, self.blocks.len(), tiles.bytes.len());
                 let tile = self.tile(random, tile_shape(shape, i));
                 tiles.bytes.extend(tile);
             }
@@ -326,25 +329,28 @@ impl Builder {
 
     /// Writes the image's block.
     fn write_image(&mut self) {
-        let mut block = Block::default();
+        let mut block = Block::new(self.version);
         block.push(FieldKind::Magic, MAGIC);
-        block.push(FieldKind::Version, VERSIONS[self.version as usize]);
+        block.push(FieldKind::Version, &tag(self.version));
         block.word(FieldKind::CanvasSide, self.width);
         block.word(FieldKind::CanvasSide, self.height);
         block.word(FieldKind::Base, self.base);
+        if has_precision(self.version) {
+            block.word(FieldKind::Precision, PRECISION);
+        }
         push_list(&mut block, Owner::Image, &self.properties);
         for (kind, pointers, most) in [
             (FieldKind::LayerPointer, &self.layers, MOST_LAYERS),
             (FieldKind::ChannelPointer, &self.channels, MOST_CHANNELS),
         ] {
             for &drawable in pointers {
-                block.pointer(kind, self.drawables[drawable].block, 0);
+                block.pointer_to(kind, self.drawables[drawable].block, 0);
             }
             let end = match pointers.len() == most {
                 true => FieldKind::FullPointersEnd,
                 false => FieldKind::PointersEnd,
             };
-            block.word(end, 0);
+            block.pointer(end, 0);
         }
         self.blocks[0] = block;
     }
@@ -372,8 +378,19 @@ impl Builder {
             version: self.version.into(),
             compression: self.compression().into(),
             rows: rows.len() as u64,
+            pointer_size: pointer_size(self.version) as u64,
         };
         Known { answer, rows }
+    }
+}
+
+/// A pointer that is not 0, perhaps only in its high or in its low word.
+fn random_further(random: &mut Random, version: u32) -> u64 {
+    let any = random.word() | 1;
+    let low = any & u64::from(u32::MAX);
+    match pointer_size(version) {
+        8 => random.pick(&[any, low, low << 32]),
+        _ => low,
     }
 }
 

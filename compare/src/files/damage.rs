@@ -41,22 +41,26 @@ pub fn change_word(random: &mut Random, built: &mut BuiltFile) {
     set_word(&mut built.bytes, place, value);
 }
 
-/// Writes a word of note, a neighbour of the old one, or random bytes over a
+/// Writes a number of note, a neighbour of the old one, or random bytes over a
 /// field.
 pub fn change_field(random: &mut Random, built: &mut BuiltFile, index: usize) {
     let field = built.fields[index];
-    if field.length != 4 {
+    if ![4, 8].contains(&field.length) {
         let bytes = random.bytes(field.length);
         built.bytes[field.place..field.place + field.length].copy_from_slice(&bytes);
         return;
     }
-    let old = word_at(&built.bytes, field.place);
-    let value = match random.below(4) {
+    let old = field.number(&built.bytes);
+    let note = u64::from(word_of_note(random, built));
+    let last = u64::MAX - random.below(9) as u64;
+    let value = match random.below(6) {
         0 => old.wrapping_add(1),
         1 => old.wrapping_sub(1),
-        _ => word_of_note(random, built),
+        // These differ in eight bytes, and not in four.
+        2 => random.pick(&[1 << 32, 1 << 32 | old, 1 << 32 | note, last]),
+        _ => note,
     };
-    set_word(&mut built.bytes, field.place, value);
+    field.set(&mut built.bytes, value);
 }
 
 /// Inserts or removes up to eight bytes, so that what follows moves.

@@ -1,5 +1,7 @@
 //! Files laid out by hand. Pieces name the places that they start at.
 
+pub mod version_11;
+
 /// The end of a property list.
 pub const END: [u32; 2] = [0, 0];
 

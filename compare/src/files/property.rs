@@ -1,6 +1,7 @@
 //! Random property lists that a reader accepts.
 
 use super::block::{Block, FieldKind};
+use super::version::floating_lengths;
 use crate::random::Random;
 
 /// Whose list it is.
@@ -21,13 +22,15 @@ pub struct Property {
     pub payload: Vec<u8>,
 }
 
+/// The type of floating selections, whose length depends on the version.
+const FLOATING: u32 = 5;
+
 /// Types that allow only one length, and that length. Not shared with the
 /// reference: a mistake there must not be one in the files that test it.
-const FIXED: [(u32, usize); 22] = [
+const FIXED: [(u32, usize); 21] = [
     (2, 0),
     (3, 0),
     (4, 0),
-    (5, 4),
     (6, 4),
     (7, 4),
     (8, 4),
@@ -94,14 +97,14 @@ impl Property {
         Property::new(17, vec![1])
     }
 
-    fn random(random: &mut Random, owner: Owner) -> Self {
+    fn random(random: &mut Random, owner: Owner, version: u32) -> Self {
         if random.one_in(5) {
             return Property::free(random, owner);
         }
-        let (kind, length) = random.pick(&FIXED);
-        if owner == Owner::Layer && kind == 5 {
-            return Property::free(random, owner);
+        if owner != Owner::Layer && random.one_in(15) {
+            return Property::floating(random, version);
         }
+        let (kind, length) = random.pick(&FIXED);
         let most = match content_kind(owner, kind) {
             FieldKind::Opacity => Some(255),
             FieldKind::Switch | FieldKind::Compression => Some(1),
@@ -113,6 +116,13 @@ impl Property {
             payload[length - 1] = random.between(0, most) as u8;
         }
         Property::new(kind, payload)
+    }
+
+    /// A property of a floating selection, which no layer may have.
+    fn floating(random: &mut Random, version: u32) -> Self {
+        let length = random.pick(floating_lengths(version));
+        let payload = random.bytes(length as usize);
+        Property::new(FLOATING, payload)
     }
 
     /// A property of a type that is skipped by its length; outside the
@@ -143,14 +153,14 @@ impl Property {
 }
 
 /// A list; types may be there more than once, in any order.
-pub fn random_list(random: &mut Random, owner: Owner) -> Vec<Property> {
+pub fn random_list(random: &mut Random, owner: Owner, version: u32) -> Vec<Property> {
     let count = match random.below(4) {
         0 => 0,
         1 => random.between(1, 2),
         _ => random.between(1, 9),
     };
     (0..count)
-        .map(|_| Property::random(random, owner))
+        .map(|_| Property::random(random, owner, version))
         .collect()
 }
 
@@ -176,13 +186,16 @@ fn push_property(block: &mut Block, owner: Owner, property: &Property) {
     } = property;
     let is_map = owner == Owner::Image && *kind == 1;
     let is_fixed = FIXED.iter().any(|(fixed, _)| fixed == kind);
+    let may_float = floating_lengths(block.version).contains(length);
     let type_kind = match owner {
         _ if is_map => FieldKind::MapType,
-        Owner::Layer if *length == 4 => FieldKind::LayerWordType,
+        Owner::Layer if may_float => FieldKind::FloatingType,
+        _ if *length == 8 && !may_float => FieldKind::LongType,
         _ => FieldKind::PropertyType,
     };
     let length_kind = match is_fixed {
         _ if is_map => FieldKind::MapLength,
+        _ if *kind == FLOATING => FieldKind::FloatingLength,
         true => FieldKind::FixedLength,
         false => FieldKind::FreeLength,
     };

@@ -2,10 +2,12 @@
 //! they lead.
 
 use super::DEPTHS;
+use super::block::set_number;
+use super::version::{PRECISION, has_precision, pointer_size, tag};
 
 /// What an image's structure holds before its pointers.
 pub struct ImageFields {
-    pub tag: &'static [u8; 5],
+    pub version: u32,
     pub sides: [u32; 2],
     pub base: u32,
     /// The property list without its end.
@@ -29,12 +31,39 @@ pub struct Layer {
     pub mask: Option<DrawableFields>,
 }
 
-#[derive(Default)]
 pub struct Writer {
     pub file: Vec<u8>,
+    /// Bytes in a pointer.
+    pointer_size: usize,
 }
 
 impl Writer {
+    /// Starts a file with an image's structure; gives also the places of the
+    /// pointers to layers and channels.
+    pub fn new(fields: &ImageFields, layers: usize, channels: usize) -> (Self, Vec<usize>) {
+        let mut writer = Writer {
+            file: [&b"gimp xcf "[..], &tag(fields.version)].concat(),
+            pointer_size: pointer_size(fields.version),
+        };
+        let pointers = writer.image(fields, layers, channels);
+        (writer, pointers)
+    }
+
+    /// Appends the image's fields behind the version.
+    fn image(&mut self, fields: &ImageFields, layers: usize, channels: usize) -> Vec<usize> {
+        self.words(&fields.sides);
+        self.words(&[fields.base]);
+        if has_precision(fields.version) {
+            self.words(&[PRECISION]);
+        }
+        self.list(&fields.list);
+        let mut pointers: Vec<usize> = (0..layers).map(|_| self.pointer()).collect();
+        self.pointer();
+        pointers.extend((0..channels).map(|_| self.pointer()));
+        self.pointer();
+        pointers
+    }
+
     fn words(&mut self, words: &[u32]) {
         let bytes = words.iter().flat_map(|word| word.to_be_bytes());
         self.file.extend(bytes);
@@ -56,31 +85,18 @@ impl Writer {
         self.words(&[0, 0]);
     }
 
-    /// Appends a pointer that leads nowhere yet; gives its place.
+    /// Appends a pointer that leads nowhere yet, as those that end lists never
+    /// do; gives its place.
     fn pointer(&mut self) -> usize {
-        self.words(&[0]);
-        self.file.len() - 4
+        let place = self.file.len();
+        self.file.resize(place + self.pointer_size, 0);
+        place
     }
 
     /// Lets the pointer at `place` lead to what is appended next.
     pub fn lead_here(&mut self, place: usize) {
-        let here = self.file.len() as u32;
-        self.file[place..place + 4].copy_from_slice(&here.to_be_bytes());
-    }
-
-    /// Appends an image's structure; gives the places of the pointers to
-    /// layers and channels.
-    pub fn image(&mut self, fields: &ImageFields, layers: usize, channels: usize) -> Vec<usize> {
-        self.file.extend(b"gimp xcf ");
-        self.file.extend(fields.tag);
-        self.words(&fields.sides);
-        self.words(&[fields.base]);
-        self.list(&fields.list);
-        let mut pointers: Vec<usize> = (0..layers).map(|_| self.pointer()).collect();
-        self.words(&[0]);
-        pointers.extend((0..channels).map(|_| self.pointer()));
-        self.words(&[0]);
-        pointers
+        let here = self.file.len() as u64;
+        set_number(&mut self.file, place, self.pointer_size, here);
     }
 
     /// Appends a layer and all that belongs to it.
@@ -119,11 +135,11 @@ impl Writer {
         self.words(&fields.sides);
         self.words(&[depth]);
         let level = self.pointer();
-        self.words(&[0]);
+        self.pointer();
         self.lead_here(level);
         self.words(&fields.sides);
         let pointers: Vec<usize> = fields.tiles.iter().map(|_| self.pointer()).collect();
-        self.words(&[0]);
+        self.pointer();
         for (pointer, tile) in pointers.into_iter().zip(&fields.tiles) {
             self.lead_here(pointer);
             self.file.extend(tile);
@@ -133,8 +149,7 @@ impl Writer {
 
 /// The file of an image, its layers and its channels, without gaps.
 pub fn write_file(image: &ImageFields, layers: &[Layer], channels: &[DrawableFields]) -> Vec<u8> {
-    let mut writer = Writer::default();
-    let pointers = writer.image(image, layers.len(), channels.len());
+    let (mut writer, pointers) = Writer::new(image, layers.len(), channels.len());
     let (to_layers, to_channels) = pointers.split_at(layers.len());
     for (&pointer, layer) in to_layers.iter().zip(layers) {
         writer.lead_here(pointer);

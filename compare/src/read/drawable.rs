@@ -3,7 +3,7 @@
 use std::ops::Range;
 
 use super::Refusal;
-use super::cursor::{Cursor, Name, Word};
+use super::cursor::{Cursor, File, Name, Word};
 use super::property::{Properties, drawable_list};
 use crate::answer::{BAD_TILE_POINTER, DISAGREES, Row, ZERO_POINTER};
 
@@ -29,11 +29,11 @@ pub struct Drawable {
     /// A layer's type, or the one in the row of the others.
     kind: u32,
     name: Name,
-    properties_place: usize,
+    properties_place: u64,
     pub properties: Properties,
-    hierarchy: u32,
+    hierarchy: u64,
     /// The place of a layer's mask; 0 for none.
-    pub mask: u32,
+    pub mask: u64,
     /// The structure's own bytes.
     pub passed: Range<usize>,
 }
@@ -41,14 +41,14 @@ pub struct Drawable {
 /// A hierarchy and its first level, both passed over.
 pub struct Tiles {
     /// Where the tile pointers begin.
-    pub first: usize,
+    pub first: u64,
     pub hierarchy: Range<usize>,
     pub level: Range<usize>,
 }
 
 impl Drawable {
     /// The fields of the layer at `place` in an image of the base type.
-    pub fn layer(file: &[u8], place: u32, base: u32) -> Result<Self, Refusal> {
+    pub fn layer(file: File, place: u64, base: u32) -> Result<Self, Refusal> {
         let mut cursor = Cursor::new(file, place);
         let width = cursor.side()?.value;
         let height = cursor.side()?.value;
@@ -63,14 +63,14 @@ impl Drawable {
             properties_place: cursor.place(),
             properties: drawable_list(&mut cursor, true)?,
             hierarchy: nonzero_pointer(&mut cursor)?,
-            mask: cursor.word()?.value,
+            mask: cursor.pointer()?.value,
             passed: cursor.passed(),
         })
     }
 
     /// The fields of the channel or mask at `place`, whose sides are those of
     /// the canvas or the layer.
-    pub fn channel(file: &[u8], place: u32, sides: [u32; 2]) -> Result<Self, Refusal> {
+    pub fn channel(file: File, place: u64, sides: [u32; 2]) -> Result<Self, Refusal> {
         let mut cursor = Cursor::new(file, place);
         for owners in sides {
             let side = cursor.side()?;
@@ -92,13 +92,13 @@ impl Drawable {
     }
 
     /// Follows the hierarchy pointer.
-    pub fn tiles(&self, file: &[u8]) -> Result<Tiles, Refusal> {
+    pub fn tiles(&self, file: File) -> Result<Tiles, Refusal> {
         let mut cursor = Cursor::new(file, self.hierarchy);
         for owners in [self.width, self.height, self.depth] {
             equal_word(&mut cursor, owners)?;
         }
         let level = nonzero_pointer(&mut cursor)?;
-        while cursor.word()?.value != 0 {}
+        while cursor.pointer()?.value != 0 {}
         let (first, level) = self.level(file, level)?;
         Ok(Tiles {
             first,
@@ -109,7 +109,7 @@ impl Drawable {
 
     /// Reads the level at `place`; gives the place where its tile pointers begin
     /// and the level's bytes.
-    fn level(&self, file: &[u8], place: u32) -> Result<(usize, Range<usize>), Refusal> {
+    fn level(&self, file: File, place: u64) -> Result<(u64, Range<usize>), Refusal> {
         let mut cursor = Cursor::new(file, place);
         for owners in [self.width, self.height] {
             equal_word(&mut cursor, owners)?;
@@ -117,11 +117,11 @@ impl Drawable {
         let first = cursor.place();
         let mut before = 0;
         for _ in 0..self.tile_count() {
-            let pointer = cursor.word()?;
-            let usable = pointer.value > before && (pointer.value as usize) < file.len();
+            let pointer = cursor.pointer()?;
+            let usable = pointer.value > before && pointer.value < file.bytes.len() as u64;
             before = pointer.tested(usable, BAD_TILE_POINTER)?.value;
         }
-        let closing = cursor.word()?;
+        let closing = cursor.pointer()?;
         closing.tested(closing.value == 0, BAD_TILE_POINTER)?;
         Ok((first, cursor.passed()))
     }
@@ -145,7 +145,7 @@ impl Drawable {
 
     /// The drawable's row in the table; `owner` is its own row, or that of its
     /// layer for a mask, whose layer's offsets are given too.
-    pub fn row(&self, kind: Kind, first_tile: usize, offsets: [u32; 2], owner: usize) -> Row {
+    pub fn row(&self, kind: Kind, first_tile: u64, offsets: [u32; 2], owner: usize) -> Row {
         [
             kind as u32,
             self.width,
@@ -168,8 +168,8 @@ impl Drawable {
 }
 
 /// A pointer that must not be 0.
-fn nonzero_pointer(cursor: &mut Cursor) -> Result<u32, Refusal> {
-    let pointer = cursor.word()?;
+fn nonzero_pointer(cursor: &mut Cursor) -> Result<u64, Refusal> {
+    let pointer = cursor.pointer()?;
     Ok(pointer.tested(pointer.value != 0, ZERO_POINTER)?.value)
 }
 

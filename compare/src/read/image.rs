@@ -3,14 +3,16 @@
 use std::ops::Range;
 
 use super::Refusal;
-use super::cursor::Cursor;
+use super::cursor::{Cursor, File};
 use super::drawable::{Drawable, Kind};
 use super::property::image_list;
-use crate::answer::{BAD_BASE, NOT_XCF, Row, TOO_MANY, UNKNOWN_VERSION};
+use super::version::Version;
+use crate::answer::{BAD_BASE, BAD_PRECISION, NOT_XCF, Row, TOO_MANY, UNKNOWN_VERSION};
 
 const MAGIC: &[u8] = b"gimp xcf ";
-/// The tags of the versions 0 to 3.
-const VERSIONS: [&[u8]; 4] = [b"file\0", b"v001\0", b"v002\0", b"v003\0"];
+
+/// The precision of a byte for each sample, with gamma.
+const EIGHT_BIT_GAMMA: u32 = 150;
 
 const MOST_LAYERS: usize = 48;
 const MOST_CHANNELS: usize = 32;
@@ -20,7 +22,7 @@ pub struct Image {
     pub width: u32,
     pub height: u32,
     pub base: u32,
-    pub version: u32,
+    pub version: Version,
     pub compression: u32,
     pub rows: Vec<Row>,
     /// The structures, in the order of the walk.
@@ -28,17 +30,20 @@ pub struct Image {
 }
 
 impl Image {
-    pub fn read(file: &[u8]) -> Result<Image, Refusal> {
-        let mut cursor = Cursor::new(file, 0);
-        let version = version(&mut cursor)?;
+    pub fn read(bytes: &[u8]) -> Result<Image, Refusal> {
+        let mut cursor = start(bytes)?;
+        let file = cursor.file;
         let width = cursor.side()?.value;
         let height = cursor.side()?.value;
-        let base = base(&mut cursor, version)?;
+        let base = base(&mut cursor)?;
+        if file.version.has_precision() {
+            precision(&mut cursor)?;
+        }
         let mut image = Image {
             width,
             height,
             base,
-            version,
+            version: file.version,
             compression: image_list(&mut cursor, base)?,
             rows: Vec::new(),
             passed: Vec::new(),
@@ -56,7 +61,7 @@ impl Image {
     }
 
     /// Reads a layer and then its mask, if it has one.
-    fn add_layer(&mut self, file: &[u8], place: u32) -> Result<(), Refusal> {
+    fn add_layer(&mut self, file: File, place: u64) -> Result<(), Refusal> {
         let owner = self.rows.len();
         let layer = Drawable::layer(file, place, self.base)?;
         let offsets = layer.properties.offsets;
@@ -68,7 +73,7 @@ impl Image {
         Ok(())
     }
 
-    fn add_channel(&mut self, file: &[u8], place: u32) -> Result<(), Refusal> {
+    fn add_channel(&mut self, file: File, place: u64) -> Result<(), Refusal> {
         let channel = Drawable::channel(file, place, [self.width, self.height])?;
         self.add_row(file, &channel, Kind::Channel, [0, 0], self.rows.len())
     }
@@ -76,7 +81,7 @@ impl Image {
     /// Follows a drawable's hierarchy pointer and adds its row.
     fn add_row(
         &mut self,
-        file: &[u8],
+        file: File,
         drawable: &Drawable,
         kind: Kind,
         offsets: [u32; 2],
@@ -91,8 +96,11 @@ impl Image {
     }
 }
 
-/// Reads the first 14 bytes.
-fn version(cursor: &mut Cursor) -> Result<u32, Refusal> {
+/// The cursor behind the first 14 bytes, which say the version.
+fn start(bytes: &[u8]) -> Result<Cursor<'_>, Refusal> {
+    // What is read here does not depend on it.
+    let version = Version::default();
+    let mut cursor = Cursor::new(File { bytes, version }, 0);
     if cursor.bytes(MAGIC.len())? != MAGIC {
         return Err(Refusal {
             number: NOT_XCF,
@@ -101,25 +109,32 @@ fn version(cursor: &mut Cursor) -> Result<u32, Refusal> {
     }
     let place = cursor.place();
     let tag = cursor.bytes(5)?;
-    let version = VERSIONS.iter().position(|&known| known == tag);
-    version.map(|version| version as u32).ok_or(Refusal {
+    cursor.file.version = Version::of_tag(tag).ok_or(Refusal {
         number: UNKNOWN_VERSION,
         place,
-    })
+    })?;
+    Ok(cursor)
 }
 
-/// Reads the base type: 0 RGB, 1 greyscale, 2 indexed from version 1 on.
-fn base(cursor: &mut Cursor, version: u32) -> Result<u32, Refusal> {
+/// Reads the base type: 0 RGB, 1 greyscale, 2 indexed.
+fn base(cursor: &mut Cursor) -> Result<u32, Refusal> {
     let base = cursor.word()?;
-    let most = if version == 0 { 1 } else { 2 };
+    let most = cursor.file.version.most_base();
     Ok(base.tested(base.value <= most, BAD_BASE)?.value)
 }
 
+/// Reads the precision.
+fn precision(cursor: &mut Cursor) -> Result<(), Refusal> {
+    let precision = cursor.word()?;
+    precision.tested(precision.value == EIGHT_BIT_GAMMA, BAD_PRECISION)?;
+    Ok(())
+}
+
 /// Reads pointers up to a 0; there may be at most `most`.
-fn pointers(cursor: &mut Cursor, most: usize) -> Result<Vec<u32>, Refusal> {
+fn pointers(cursor: &mut Cursor, most: usize) -> Result<Vec<u64>, Refusal> {
     let mut pointers = Vec::new();
     loop {
-        let pointer = cursor.word()?;
+        let pointer = cursor.pointer()?;
         if pointer.value == 0 {
             return Ok(pointers);
         }

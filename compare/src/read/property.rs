@@ -2,6 +2,7 @@
 
 use super::Refusal;
 use super::cursor::{Cursor, Word, number};
+use super::version::Version;
 use crate::answer::{BAD_CONTENT, FLOATING_SELECTION, PROPERTY_LENGTH};
 
 /// The base type of indexed images.
@@ -16,19 +17,25 @@ struct Head {
 /// The bytes of a property behind its length, and where they start.
 struct Payload<'a> {
     bytes: &'a [u8],
-    place: usize,
+    place: u64,
 }
 
-/// The payload length of a type that allows only one.
-fn only_length(kind: u32) -> Option<u32> {
+/// The payload lengths of a type that allows only some.
+fn only_lengths(kind: u32, version: Version) -> Option<&'static [u32]> {
     match kind {
-        0 | 2 | 3 | 4 | 29 => Some(0),
-        5..=14 | 20 | 22 => Some(4),
-        15 | 19 => Some(8),
-        16 => Some(3),
-        17 => Some(1),
+        0 | 2 | 3 | 4 | 29 => Some(&[0]),
+        5 => Some(version.floating_lengths()),
+        6..=14 | 20 | 22 => Some(&[4]),
+        15 | 19 => Some(&[8]),
+        16 => Some(&[3]),
+        17 => Some(&[1]),
         _ => None,
     }
+}
+
+/// The number that up to four bytes hold.
+fn word(bytes: &[u8]) -> u32 {
+    number(bytes) as u32
 }
 
 impl Head {
@@ -48,8 +55,8 @@ impl Head {
 
     /// The payload, once the length is right for the type.
     fn payload<'a>(&self, cursor: &mut Cursor<'a>) -> Result<Payload<'a>, Refusal> {
-        if let Some(right) = only_length(self.kind.value) {
-            self.test_length(&[right])?;
+        if let Some(right) = only_lengths(self.kind.value, cursor.file.version) {
+            self.test_length(right)?;
         }
         let place = cursor.place();
         let bytes = cursor.bytes(self.length.value as usize)?;
@@ -72,7 +79,7 @@ impl Head {
 impl Payload<'_> {
     /// The payload as one number, which may be at most `most`.
     fn at_most(&self, most: u32) -> Result<u32, Refusal> {
-        match number(self.bytes) {
+        match word(self.bytes) {
             value if value <= most => Ok(value),
             _ => Err(Refusal {
                 number: BAD_CONTENT,
@@ -164,9 +171,9 @@ impl Properties {
             5 => {
                 head.kind.tested(false, FLOATING_SELECTION)?;
             }
-            7 => self.mode = number(payload.bytes),
+            7 => self.mode = word(payload.bytes),
             11 => self.apply_mask = Some(payload.at_most(1)? == 1),
-            15 => self.offsets = [number(&payload.bytes[..4]), number(&payload.bytes[4..])],
+            15 => self.offsets = [&payload.bytes[..4], &payload.bytes[4..]].map(word),
             29 => self.group = true,
             _ => {}
         }

@@ -150,9 +150,9 @@ impl Picture {
     fn file(&self) -> Vec<u8> {
         let is_new = |drawable: &Drawable| drawable.row[14] >= 19;
         let image = ImageFields {
-            tag: match self.drawables.iter().any(is_new) {
-                true => b"v002\0",
-                false => b"file\0",
+            version: match self.drawables.iter().any(is_new) {
+                true => 2,
+                false => 0,
             },
             sides: self.sides,
             base: self.base,

@@ -19,7 +19,7 @@ pub struct Drawable<'a> {
 impl<'a> Drawable<'a> {
     /// Encodes the drawable's own pixels, tile by tile.
     pub fn new(row: &'a Row, has_mask: bool, names: &'a [u8], pixels: &[u8]) -> Self {
-        let drawable = decode::Drawable::of_row(row, 1).expect("the row is usable");
+        let drawable = decode::Drawable::of_row(row, 1, 4).expect("the row is usable");
         let tiles = (0..drawable.tile_count()).map(|index| {
             let pixels = drawable.cut_out(index, pixels);
             tile::encode_pixels(&pixels, row[3] as usize)

@@ -165,6 +165,9 @@ impl Pair {
 struct Seen {
     /// Pairs of plain and of encoded files.
     compressions: [usize; 2],
+    /// Pairs of files with pointers of 8 bytes, and chosen tiles of these.
+    long_pointers: usize,
+    long_chosen: usize,
     chosen: usize,
     /// Chosen tiles with another byte in their window, behind what they
     /// consumed.
@@ -191,6 +194,9 @@ impl Seen {
     fn add(&mut self, pair: &Pair) {
         let Pair { first, second, .. } = pair;
         self.compressions[first.reading.compression() as usize] += 1;
+        let is_long = usize::from(first.reading.pointer_size() == 8);
+        self.long_pointers += is_long;
+        self.long_chosen += is_long * pair.chosen.len();
         let is_structure = structures(&first.file);
         for chosen in &pair.chosen {
             let Tile { row, window, .. } = &first.tiles[chosen.index];
@@ -225,13 +231,16 @@ impl Seen {
 
     fn report(&self) {
         report(&format!(
-            "consumed: {PAIRS} pairs of files, compressions {:?}, {} with all good tiles chosen; \
-             {} chosen tiles, {} of masks, {} with changes in their window behind what they \
-             consumed, of these {} with structures there and {} with a window that was cut; of the \
-             others {}; {} rows with a chosen tile share their pointers",
+            "consumed: {PAIRS} pairs of files, compressions {:?}, {} with pointers of 8 bytes, {} \
+             with all good tiles chosen; {} chosen tiles, {} under pointers of 8 bytes, {} of \
+             masks, {} with changes in their window behind what they consumed, of these {} with \
+             structures there and {} with a window that was cut; of the others {}; {} rows with a \
+             chosen tile share their pointers",
             self.compressions,
+            self.long_pointers,
             self.all_chosen,
             self.chosen,
+            self.long_chosen,
             self.masks,
             self.changed_behind,
             self.over_structures,
@@ -244,6 +253,7 @@ impl Seen {
     /// Asserts that all is there often enough to be worth running.
     fn assert_varied(&self) {
         assert!(self.compressions.iter().all(|&count| count >= 1_000));
+        assert!(self.long_pointers >= 1_500 && self.long_chosen >= 8_000);
         assert!(self.all_chosen >= 1_000 && self.chosen >= 30_000);
         assert!(self.changed_behind >= 10_000 && self.over_structures >= 5_000);
         assert!(self.cut >= 500 && self.masks >= 5_000);

@@ -5,7 +5,7 @@
 use std::ops::Range;
 
 use xcf_compare::files::EXAMPLE;
-use xcf_compare::files::laid::layered;
+use xcf_compare::files::laid::{layered, version_11};
 use xcf_compare::implementation::{PLAIN, REFERENCE};
 use xcf_compare::random::Random;
 use xcf_compare::{library, report};
@@ -64,6 +64,8 @@ struct Seen {
     changes: Changes,
     /// Pairs of plain and of encoded files.
     compressions: [usize; 2],
+    /// Pairs of files with pointers of 8 bytes.
+    long_pointers: usize,
     /// Pairs that may differ where no tile has a byte.
     gaps: usize,
     /// Pairs with a chosen tile and another one in one row.
@@ -79,6 +81,7 @@ impl Seen {
     /// at most has the byte that the choice started from.
     fn add_choice(&mut self, reading: &Reading, tiles: &[Tile], choice: &Choice) {
         self.compressions[reading.compression() as usize] += 1;
+        self.long_pointers += usize::from(reading.pointer_size() == 8);
         self.gaps += usize::from(choice.has_gap);
         let is_split = |row: &[Tile]| {
             let chosen = row.iter().filter(|tile| tile.is_chosen).count();
@@ -99,13 +102,15 @@ impl Seen {
     fn report(&self) {
         report(&format!(
             "isolation: {PAIRS} pairs of files, {} chosen tiles, {} others of which {} are good; \
-             of the chosen {}; pairs: compressions {:?}, {} with bytes of no tile, {} with a row \
-             in part chosen, {} with shared pointers, {} with overlapping windows",
+             of the chosen {}; pairs: compressions {:?}, {} with pointers of 8 bytes, {} with \
+             bytes of no tile, {} with a row in part chosen, {} with shared pointers, {} with \
+             overlapping windows",
             self.chosen,
             self.others,
             self.good_others,
             self.changes,
             self.compressions,
+            self.long_pointers,
             self.gaps,
             self.split,
             self.shared,
@@ -119,6 +124,7 @@ impl Seen {
         assert!(self.good_others >= 60_000 && self.changes.other_pixels >= 10_000);
         assert!(self.changes.good_to_marked >= 3_000 && self.changes.marked_to_good >= 3_000);
         assert!(self.compressions.iter().all(|&count| count >= 1_000));
+        assert!(self.long_pointers >= 1_500);
         assert!(self.gaps >= 1_000 && self.split >= 3_000);
         assert!(self.shared >= 2_000 && self.overlapping >= 2_500);
     }
@@ -167,7 +173,12 @@ fn compare(
 /// no more is kept from being written to.
 #[test]
 fn structures_end_before_the_tiles() {
-    for (file, tiles) in [(EXAMPLE.to_vec(), 141), (layered(), 267)] {
+    for (file, tiles) in [
+        (EXAMPLE.to_vec(), 141),
+        (layered(), 267),
+        (version_11::example(), 177),
+        (version_11::layered(), 367),
+    ] {
         let expected: Vec<bool> = (0..file.len()).map(|place| place < tiles).collect();
         assert_eq!(structures(&file), expected);
     }

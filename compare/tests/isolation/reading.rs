@@ -50,11 +50,19 @@ impl Reading {
     }
 
     pub fn compression(&self) -> u32 {
-        self.answer.compression as u32
+        let [compression, _] = self.answer.form();
+        compression
+    }
+
+    pub fn pointer_size(&self) -> u32 {
+        let [_, pointer_size] = self.answer.form();
+        pointer_size
     }
 
     pub fn drawable(&self, file: &[u8], row: u32) -> Drawable {
-        Drawable::new(file, &self.table, row, self.compression()).expect("a row that was read")
+        let [compression, pointer_size] = self.answer.form();
+        Drawable::new(file, &self.table, row, compression, pointer_size)
+            .expect("a row that was read")
     }
 
     /// All tiles of all rows; none is chosen.
@@ -115,12 +123,12 @@ impl Decoded {
         let drawable = reading.drawable(file, row);
         let mut marks = random.bytes(drawable.tile_count());
         let mut pixels = random.bytes(drawable.pixels_length());
-        let compression = reading.compression();
+        let (table, [compression, size]) = (&reading.table, reading.answer.form());
         let lent = (&mut pixels[..], &mut marks[..]);
-        let answer = decode(file, &reading.table, row, compression, lent.0, lent.1);
+        let answer = decode(file, table, row, compression, size, lent.0, lent.1);
         let marked = marks.iter().filter(|&&mark| mark != 0).count();
         assert_eq!(answer, DecodeAnswer::decoded(marked));
-        let counted = library::count_marked(file, &reading.table, row, compression);
+        let counted = library::count_marked(file, table, row, compression, size);
         assert_eq!(counted, answer);
         Decoded { marks, pixels }
     }

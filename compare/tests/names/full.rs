@@ -4,25 +4,96 @@
 use std::array;
 
 use xcf_compare::answer::{ReadAnswer, Row, TABLE_LENGTH, WriteAnswer};
-use xcf_compare::files::laid::{END, image_start, lay, words};
+use xcf_compare::files::block::set_number;
+use xcf_compare::files::laid::{END, image_start, lay, version_11, words};
+use xcf_compare::files::version::pointer_size;
 use xcf_compare::guard::difference;
 use xcf_compare::implementation::Implementation;
 use xcf_compare::names::{NOT_UTF8, name_flag};
 
 pub const ROWS: usize = 128;
 
-/// Where the layers' and the channels' pointers start, the hierarchy that all
-/// drawables share, and its only tile pointer.
-const LAYER_POINTERS: usize = 34;
-const CHANNEL_POINTERS: usize = 230;
-const HIERARCHY: u32 = 362;
-const TILE_POINTER: u32 = 390;
+/// A version, and where in its files the layers' and the channels' pointers
+/// start, the hierarchy that all drawables share, and its only tile pointer.
+pub struct Form {
+    version: u32,
+    layer_pointers: usize,
+    channel_pointers: usize,
+    hierarchy: usize,
+    tile_pointer: u32,
+}
+
+/// Pointers of 4 and of 8 bytes.
+pub const FORMS: [Form; 2] = [
+    Form {
+        version: 0,
+        layer_pointers: 34,
+        channel_pointers: 230,
+        hierarchy: 362,
+        tile_pointer: 390,
+    },
+    Form {
+        version: 11,
+        layer_pointers: 38,
+        channel_pointers: 430,
+        hierarchy: 694,
+        tile_pointer: 730,
+    },
+];
 
 /// The first row of a channel.
 const FIRST_CHANNEL: usize = 96;
 
-/// The answer to reading such a file.
-const READ: ReadAnswer = ReadAnswer::accepted([1, 1, 1, 0, 0], ROWS);
+impl Form {
+    fn pointer_size(&self) -> usize {
+        pointer_size(self.version)
+    }
+
+    /// The answer to reading such a file.
+    fn read(&self) -> ReadAnswer {
+        ReadAnswer::accepted([1, 1, 1, self.version.into(), 0], ROWS)
+    }
+
+    /// The image, whose pointers are to be set, and the hierarchy and the level
+    /// that all drawables share.
+    fn start(&self) -> Vec<u8> {
+        let size = self.pointer_size();
+        let image = match size {
+            8 => version_11::image_start(1),
+            _ => image_start(b"file\0", 1),
+        };
+        let level = self.hierarchy + 12 + 2 * size;
+        lay(&[
+            (0, &image),
+            (self.layer_pointers - 8, &words(&END)),
+            (self.layer_pointers, &vec![0; size * 49]),
+            (self.channel_pointers, &vec![0; size * 33]),
+            (self.hierarchy, &words(&[1, 1, 1])),
+            (self.hierarchy + 12, &self.pointers(&[level, 0])),
+            (level, &words(&[1, 1])),
+            (self.tile_pointer as usize, &self.pointers(&[1, 0])),
+        ])
+    }
+
+    fn pointers(&self, places: &[usize]) -> Vec<u8> {
+        let size = self.pointer_size();
+        let mut bytes = vec![0; size * places.len()];
+        for (i, &place) in places.iter().enumerate() {
+            set_number(&mut bytes, size * i, size, place as u64);
+        }
+        bytes
+    }
+
+    /// The place of the image's pointer to a row; a mask has none.
+    fn pointer(&self, row: usize) -> Option<usize> {
+        let size = self.pointer_size();
+        match row {
+            FIRST_CHANNEL.. => Some(self.channel_pointers + size * (row - FIRST_CHANNEL)),
+            _ if row % 2 == 1 => None,
+            _ => Some(self.layer_pointers + size * (row / 2)),
+        }
+    }
+}
 
 pub struct Full<'a> {
     names: [&'a [u8]; ROWS],
@@ -54,14 +125,14 @@ impl<'a> Full<'a> {
     }
 
     /// The file, and the table that a reader leaves.
-    fn file(&self) -> (Vec<u8>, Vec<u32>) {
-        let mut file = start();
+    fn file(&self, form: &Form) -> (Vec<u8>, Vec<u32>) {
+        let mut file = form.start();
         let mut table = Vec::with_capacity(TABLE_LENGTH);
         for index in 0..ROWS {
             let mut row = self.row(index);
-            if let Some(pointer) = pointer(index) {
-                let place = file.len() as u32;
-                file[pointer..pointer + 4].copy_from_slice(&place.to_be_bytes());
+            if let Some(pointer) = form.pointer(index) {
+                let place = file.len() as u64;
+                set_number(&mut file, pointer, form.pointer_size(), place);
             }
             let sides_and_type = [1, 1, 2];
             let is_layer = row[0] == 1;
@@ -69,11 +140,12 @@ impl<'a> Full<'a> {
             row[5] = file.len() as u32 + 4;
             put_string(&mut file, self.names[index], turn(index));
             row[7] = file.len() as u32;
-            row[8] = TILE_POINTER;
-            put(&mut file, &[0, 0, HIERARCHY]);
+            row[8] = form.tile_pointer;
+            put(&mut file, &END);
+            file.extend(form.pointers(&[form.hierarchy]));
             if is_layer {
-                let mask = file.len() as u32 + 4;
-                put(&mut file, &[mask]);
+                let mask = file.len() + form.pointer_size();
+                file.extend(form.pointers(&[mask]));
             }
             table.extend(row);
         }
@@ -95,10 +167,10 @@ impl<'a> Full<'a> {
 
     /// Asserts that a reader gives each row its flag, and all else of answer
     /// and table whatever the names are.
-    pub fn assert_read(&self, by: &Implementation) {
-        let (file, expected) = self.file();
+    pub fn assert_read(&self, form: &Form, by: &Implementation) {
+        let (file, expected) = self.file(form);
         let mut table = vec![0xA5A5_A5A5; TABLE_LENGTH];
-        assert_eq!((by.read)(&file, &mut table), READ, "{}", by.name);
+        assert_eq!((by.read)(&file, &mut table), form.read(), "{}", by.name);
         self.assert_same(&table, &expected, by);
     }
 
@@ -155,28 +227,6 @@ fn turn(row: usize) -> usize {
         FIRST_CHANNEL.. => row,
         _ => row / 2 + FIRST_CHANNEL / 2 * (row % 2),
     }
-}
-
-/// The place of the image's pointer to a row; a mask has none.
-fn pointer(row: usize) -> Option<usize> {
-    match row {
-        FIRST_CHANNEL.. => Some(CHANNEL_POINTERS + 4 * (row - FIRST_CHANNEL)),
-        _ if row % 2 == 1 => None,
-        _ => Some(LAYER_POINTERS + 4 * (row / 2)),
-    }
-}
-
-/// The image, whose pointers are to be set, and the hierarchy and the level
-/// that all drawables share.
-fn start() -> Vec<u8> {
-    lay(&[
-        (0, &image_start(b"file\0", 1)),
-        (26, &words(&END)),
-        (LAYER_POINTERS, &[0; 4 * 49]),
-        (CHANNEL_POINTERS, &[0; 4 * 33]),
-        (HIERARCHY as usize, &words(&[1, 1, 1, 382, 0])),
-        (382, &words(&[1, 1, 1, 0])),
-    ])
 }
 
 fn put(file: &mut Vec<u8>, words: &[u32]) {

@@ -3,7 +3,7 @@
 
 use xcf_compare::implementation::ALL;
 
-use crate::full::Full;
+use crate::full::{FORMS, Full};
 
 /// Asserts, with all, that names are well-formed, or that they are not.
 fn assert_well_formed(is_utf8: bool, names: &[&[u8]]) {
@@ -11,7 +11,9 @@ fn assert_well_formed(is_utf8: bool, names: &[&[u8]]) {
         // The rows' flags come from Rust's rule.
         assert_eq!(str::from_utf8(name).is_ok(), is_utf8, "{name:02X?}");
         for by in ALL {
-            Full::new(&[name]).assert_read(&by);
+            for form in &FORMS {
+                Full::new(&[name]).assert_read(form, &by);
+            }
             Full::new(&[name]).assert_written(&by);
         }
     }

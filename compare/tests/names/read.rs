@@ -2,7 +2,7 @@
 
 use xcf_compare::implementation::LIBRARY;
 
-use crate::full::{Full, ROWS};
+use crate::full::{FORMS, Full, ROWS};
 use crate::{Count, EDGES, WELL_FORMED, edges, hold, random_names, sequences};
 
 const SEED: u64 = 0x6E61_6D65_7300_0001;
@@ -12,7 +12,9 @@ const RANDOM_NAMES: usize = 1_000_000;
 const EACH_KIND: usize = 32;
 
 fn assert_read(full: &Full) {
-    full.assert_read(&LIBRARY);
+    for form in &FORMS {
+        full.assert_read(form, &LIBRARY);
+    }
 }
 
 #[test]

@@ -2,9 +2,12 @@
 //! implementations with the answers written out.
 
 mod acceptances;
+mod floating;
+mod long_pointers;
 mod maps;
 mod order;
 mod refusals;
+mod version_11;
 
 use xcf_compare::answer::{ReadAnswer, Row, TABLE_LENGTH};
 use xcf_compare::implementation::ALL;
@@ -17,7 +20,7 @@ fn assert_refused(file: &[u8], number: u64, place: usize) {
     for by in ALL {
         let mut table = vec![FILLING; TABLE_LENGTH];
         let answer = (by.read)(file, &mut table);
-        assert_eq!(answer, ReadAnswer::refused(number, place));
+        assert_eq!(answer, ReadAnswer::refused(number, place as u64));
         assert!(table == [0; TABLE_LENGTH], "{number} at {place}");
     }
 }

@@ -1,28 +1,38 @@
 //! A moving place in a file, and the fields that are read from it.
 
-use crate::pointers::{first_bad, word};
+use crate::pointers::{first_bad, pointer, word};
 use crate::row::is_side;
 use crate::{Fault, Refusal};
 
 pub type Read<T> = Result<T, Refusal>;
 
-/// A moving place in a file of the length; `rest` is what comes behind it.
-pub struct Cursor<'a> {
+/// A moving place in a file of the length, whose pointers have `N` bytes; `rest`
+/// is what comes behind it.
+pub struct Cursor<'a, const N: usize> {
     rest: &'a [u8],
     length: usize,
 }
 
-impl<'a> Cursor<'a> {
+impl<'a, const N: usize> Cursor<'a, N> {
     /// Every structure starts with a field, which a place past the end lacks.
-    pub fn at(file: &'a [u8], place: u32) -> Read<Self> {
-        let place = place as usize;
-        match file.get(place..) {
+    pub fn at(file: &'a [u8], place: u64) -> Read<Self> {
+        let start = usize::try_from(place).ok();
+        match start.and_then(|start| file.get(start..)) {
             Some(rest) => Ok(Cursor {
                 rest,
                 length: file.len(),
             }),
-            None => Err(Fault::PastEnd.at(place)),
+            None => Err(Refusal {
+                fault: Fault::PastEnd,
+                place,
+            }),
         }
+    }
+
+    /// The same place, if pointers have `M` bytes.
+    pub fn with_pointers<const M: usize>(self) -> Cursor<'a, M> {
+        let Cursor { rest, length } = self;
+        Cursor { rest, length }
     }
 
     pub fn place(&self) -> usize {
@@ -45,14 +55,22 @@ impl<'a> Cursor<'a> {
         }
     }
 
-    pub fn word(&mut self) -> Read<u32> {
+    fn chunk<const SIZE: usize>(&mut self) -> Read<&'a [u8; SIZE]> {
         match self.rest.split_first_chunk() {
             Some((bytes, rest)) => {
                 self.rest = rest;
-                Ok(word(bytes))
+                Ok(bytes)
             }
             None => Err(self.refusal(Fault::PastEnd, 0)),
         }
+    }
+
+    pub fn word(&mut self) -> Read<u32> {
+        self.chunk().map(word)
+    }
+
+    pub fn pointer(&mut self) -> Read<u64> {
+        self.chunk::<N>().map(pointer)
     }
 
     /// A word that is refused for the fault unless it is usable.
@@ -83,8 +101,11 @@ impl<'a> Cursor<'a> {
         Ok(())
     }
 
-    pub fn nonzero_pointer(&mut self) -> Read<u32> {
-        self.tested_word(Fault::ZeroPointer, |pointer| pointer != 0)
+    pub fn nonzero_pointer(&mut self) -> Read<u64> {
+        match self.pointer()? {
+            0 => Err(self.refusal(Fault::ZeroPointer, N)),
+            pointer => Ok(pointer),
+        }
     }
 
     /// The bytes of a name, which end before the zero that closes it.
@@ -98,34 +119,36 @@ impl<'a> Cursor<'a> {
     }
 
     /// Pointers up to a 0, as many as there is room for.
-    pub fn pointers<'b>(&mut self, room: &'b mut [u32]) -> Read<&'b [u32]> {
+    pub fn pointers<'b>(&mut self, room: &'b mut [u64]) -> Read<&'b [u64]> {
         let mut count = 0;
         loop {
-            let pointer = self.word()?;
+            let pointer = self.pointer()?;
             if pointer == 0 {
                 return Ok(&room[..count]);
             }
             match room.get_mut(count) {
                 Some(free) => *free = pointer,
-                None => return Err(self.refusal(Fault::TooMany, 4)),
+                None => return Err(self.refusal(Fault::TooMany, N)),
             }
             count += 1;
         }
     }
 
-    /// So many tile pointers, and the closing word.
+    /// So many tile pointers, and the zero that closes them.
     pub fn tile_pointers(&mut self, count: usize) -> Read<()> {
-        let (words, _) = self.rest.as_chunks();
-        let words = &words[..count.min(words.len())];
-        if let Some(bad) = first_bad(words, self.length) {
-            self.bytes(4 * bad)?;
+        let (pointers, _) = self.rest.as_chunks::<N>();
+        let pointers = &pointers[..count.min(pointers.len())];
+        if let Some(bad) = first_bad(pointers, self.length) {
+            self.bytes(N * bad)?;
             return Err(self.refusal(Fault::BadTilePointer, 0));
         }
-        self.bytes(4 * words.len())?;
-        if words.len() < count {
+        self.bytes(N * pointers.len())?;
+        if pointers.len() < count {
             return Err(self.refusal(Fault::PastEnd, 0));
         }
-        self.tested_word(Fault::BadTilePointer, |closing| closing == 0)?;
-        Ok(())
+        match self.pointer()? {
+            0 => Ok(()),
+            _ => Err(self.refusal(Fault::BadTilePointer, N)),
+        }
     }
 }

@@ -17,9 +17,19 @@ fn only_length(kind: u32) -> Option<u32> {
     }
 }
 
+/// Whether a property of the type may be so long. What a floating selection is
+/// attached to may also be given by a pointer of `N` bytes.
+fn is_length<const N: usize>(kind: u32, length: u32) -> bool {
+    only_length(kind).is_none_or(|right| right == length) || kind == 5 && length == N as u32
+}
+
 /// A payload, once its length is right for the type.
-fn payload<'a>(cursor: &mut Cursor<'a>, kind: u32, length: u32) -> Read<&'a [u8]> {
-    if only_length(kind).is_some_and(|right| right != length) {
+fn payload<'a, const N: usize>(
+    cursor: &mut Cursor<'a, N>,
+    kind: u32,
+    length: u32,
+) -> Read<&'a [u8]> {
+    if !is_length::<N>(kind, length) {
         return Err(cursor.refusal(Fault::PropertyLength, 4));
     }
     cursor.bytes(length as usize)
@@ -32,7 +42,7 @@ fn word_of(payload: &[u8]) -> u32 {
 
 /// The value of the payload that starts `back` bytes before the place; it may
 /// be at most `most`.
-fn at_most(cursor: &Cursor, most: u32, value: u32, back: usize) -> Read<u32> {
+fn at_most<const N: usize>(cursor: &Cursor<N>, most: u32, value: u32, back: usize) -> Read<u32> {
     if value > most {
         return Err(cursor.refusal(Fault::BadContent, back));
     }
@@ -41,7 +51,7 @@ fn at_most(cursor: &Cursor, most: u32, value: u32, back: usize) -> Read<u32> {
 
 /// Passes over a colour map, whose length word is given: it says how many bytes
 /// there are or, in old files, a byte for each colour and the count's word.
-fn colour_map(cursor: &mut Cursor, length: u32) -> Read<()> {
+fn colour_map<const N: usize>(cursor: &mut Cursor<N>, length: u32) -> Read<()> {
     if length < 4 {
         return Err(cursor.refusal(Fault::PropertyLength, 4));
     }
@@ -54,7 +64,7 @@ fn colour_map(cursor: &mut Cursor, length: u32) -> Read<()> {
 }
 
 /// Reads the image's list; gives the compression.
-pub fn image_list(cursor: &mut Cursor, base: u32) -> Read<u32> {
+pub fn image_list<const N: usize>(cursor: &mut Cursor<N>, base: u32) -> Read<u32> {
     let mut compression = 0;
     let mut lacks_map = base == 2;
     loop {
@@ -81,7 +91,7 @@ fn set(flags: &mut u32, flag: u32, value: u32) {
 
 /// Reads a drawable's list into its row, which holds what stands for absent
 /// types.
-pub fn drawable_list(cursor: &mut Cursor, row: &mut Row) -> Read<()> {
+pub fn drawable_list<const N: usize>(cursor: &mut Cursor<N>, row: &mut Row) -> Read<()> {
     let is_layer = row[0] == LAYER;
     loop {
         let kind = cursor.word()?;
@@ -93,7 +103,9 @@ pub fn drawable_list(cursor: &mut Cursor, row: &mut Row) -> Read<()> {
             2 if is_layer => row[11] |= ACTIVE,
             3 if !is_layer => row[11] |= ACTIVE,
             4 if !is_layer => row[11] |= SELECTION,
-            5 if is_layer => return Err(cursor.refusal(Fault::FloatingSelection, 12)),
+            5 if is_layer => {
+                return Err(cursor.refusal(Fault::FloatingSelection, 8 + payload.len()));
+            }
             6 => row[10] = at_most(cursor, 255, word, 4)?,
             7 if is_layer => row[14] = word,
             8 => set(&mut row[11], VISIBLE, at_most(cursor, 1, word, 4)?),

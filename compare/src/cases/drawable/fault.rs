@@ -3,17 +3,41 @@
 use super::{Base, Kind, Refused};
 use crate::answer::{BAD_TILE_POINTER, ROW_LENGTH, TABLE_LENGTH, UNUSABLE, WRONG_LENGTH};
 use crate::cases::{unusable, wrong_length};
-use crate::files::block::{set_word, word_at};
+use crate::files::block::{number_at, set_number};
 use crate::files::drawable::tile_count;
+use crate::numbers::pointer_above;
 use crate::random::Random;
 
 /// Kinds that are one fault each, those tested last at the end.
-const SINGLE: [Kind; 5] = [
+const SINGLE: [Kind; 7] = [
     Kind::RowNumber,
     Kind::Compression,
+    Kind::PointerSize,
     Kind::Field,
     Kind::WrongLength,
+    Kind::OtherSize,
     Kind::Pointer,
+];
+
+/// Sizes that no pointer has, some of which would be right if their high bits
+/// were lost.
+const BAD_SIZES: [u32; 16] = [
+    0,
+    1,
+    2,
+    3,
+    5,
+    6,
+    7,
+    9,
+    12,
+    16,
+    32,
+    64,
+    256 + 4,
+    65_536 + 8,
+    1 << 31 | 8,
+    u32::MAX,
 ];
 
 /// Sides and tile counts that are unusable, but fit in 32 bits: the number of
@@ -49,6 +73,8 @@ impl Base {
                 let any = random.between(2, u32::MAX as usize) as u32;
                 self.case.compression = random.pick(&[2, 2, 3, 256, 257, 1 << 31, u32::MAX, any]);
             }
+            Kind::PointerSize => self.case.pointer_size = random.pick(&BAD_SIZES),
+            Kind::OtherSize => return self.tell_other_size(),
             Kind::WrongLength => return self.spoil_length(random),
             Kind::Pointer => return self.spoil_pointer(random),
             _ => self.spoil_field(random),
@@ -99,11 +125,24 @@ impl Base {
         (WRONG_LENGTH, 0)
     }
 
+    /// Tells the pointer size that the tile pointers do not have. The first one
+    /// is then a 0, the high word of a long pointer, or far beyond the file, with
+    /// a short pointer for its high word; if all that is read lies in the file.
+    fn tell_other_size(&mut self) -> Refused {
+        self.case.pointer_size = 12 - self.size as u32;
+        let length = self.pointers_length() / self.size * self.case.pointer_size as usize;
+        match self.place + length <= self.case.file.len() {
+            true => (BAD_TILE_POINTER, self.place),
+            false => (UNUSABLE, 0),
+        }
+    }
+
     /// Makes one of the numbers that decoding uses unusable, or three.
     fn spoil_field(&mut self, random: &mut Random) {
         let shape = self.shape;
         let count = tile_count(shape) as u32;
         let length = self.case.file.len() as u32;
+        let room = self.pointers_length() as u32;
         let Some(row) = self.row_mut() else {
             return;
         };
@@ -112,7 +151,7 @@ impl Base {
             1 => row[1] = bad_side(random, shape.width),
             2 => row[2] = bad_side(random, shape.height),
             3 => row[3] = unusable(random, shape.depth, 4),
-            4 | 5 => row[8] = bad_place(random, length, 4 * (count + 1)),
+            4 | 5 => row[8] = bad_place(random, length, room),
             6 => row[9] = bad_count(random, count),
             _ => [row[1], row[2], row[9]] = random.pick(&WRAPPED),
         }
@@ -125,40 +164,50 @@ impl Base {
         }
     }
 
-    /// Writes over a tile pointer or the closing word such that this word, or
+    /// The tile pointer of an index.
+    fn pointer(&self, index: usize) -> u64 {
+        number_at(&self.case.file, self.pointer_place(index), self.size)
+    }
+
+    fn pointer_place(&self, index: usize) -> usize {
+        self.place + self.size * index
+    }
+
+    /// Writes over a tile pointer or the closing zero such that this one, or
     /// the one behind it, is bad.
     fn spoil_pointer(&mut self, random: &mut Random) -> Refused {
         let count = tile_count(self.shape);
         let any = random.below(count + 1);
         let index = random.pick(&[0, count - 1, count, any]);
-        let place = self.place + 4 * index;
-        let beyond = random.pick(&[0, 0, 1, 1 << 31]) + self.case.file.len() as u32;
         let (value, bad) = match count - index {
-            0 => (random.pick(&[1, 1 << 24, beyond, u32::MAX]), place),
-            1 => (self.bad_pointer(random, index, beyond), place),
-            _ if random.one_in(2) => (self.bad_pointer(random, index, beyond), place),
+            0 => (pointer_above(random, 0, 0, self.size), index),
+            1 => (self.bad_pointer(random, index), index),
+            _ if random.one_in(2) => (self.bad_pointer(random, index), index),
             // This pointer is good, and the next is not above it.
-            _ => (self.late_pointer(random, place), place + 4),
+            _ => (self.late_pointer(random, index), index + 1),
         };
-        set_word(&mut self.case.file, place, value);
-        (BAD_TILE_POINTER, bad)
+        let place = self.pointer_place(index);
+        set_number(&mut self.case.file, place, self.size, value);
+        (BAD_TILE_POINTER, self.pointer_place(bad))
     }
 
     /// A pointer that is 0, not in the file, or not above the one before.
-    fn bad_pointer(&self, random: &mut Random, index: usize, beyond: u32) -> u32 {
+    fn bad_pointer(&self, random: &mut Random, index: usize) -> u64 {
         let before = match index {
             0 => 0,
-            _ => word_at(&self.case.file, self.place + 4 * index - 4),
+            _ => self.pointer(index - 1),
         };
-        let below = random.between(0, before as usize) as u32;
-        random.pick(&[0, beyond, before, below])
+        let last = self.case.file.len() as u32 - 1;
+        let beyond = pointer_above(random, last, self.pointer(index), self.size);
+        let below = random.word() % before.max(1);
+        random.pick(&[0, beyond, beyond, before, below])
     }
 
-    /// A pointer in the file that is not below the one behind `place`.
-    fn late_pointer(&self, random: &mut Random, place: usize) -> u32 {
-        let next = word_at(&self.case.file, place + 4);
-        let last = self.case.file.len() as u32 - 1;
-        let any = random.between(next.min(last) as usize, last as usize) as u32;
+    /// A pointer in the file that is not below the one behind its own.
+    fn late_pointer(&self, random: &mut Random, index: usize) -> u64 {
+        let next = self.pointer(index + 1);
+        let last = self.case.file.len() as u64 - 1;
+        let any = random.between(next.min(last) as usize, last as usize) as u64;
         random.pick(&[next, any])
     }
 }
