@@ -8,23 +8,36 @@ use crate::cases::Shape;
 use crate::files::block::word_at;
 use crate::files::drawable::tile_count;
 use crate::files::laid::with;
+use crate::files::version;
 
 /// The folder with the files that GIMP wrote.
 pub fn data_folder() -> PathBuf {
     Path::new(env!("CARGO_MANIFEST_DIR")).join("data")
 }
 
-/// The file of the folder that is indexed. Its list of properties starts at
-/// 26, with the colour map.
+/// The indexed file of version 1 in the folder, and that of version 11. Their
+/// lists of properties start with the colour map.
 pub const INDEXED_FILE: &str = "indexed";
+pub const MODERN_INDEXED_FILE: &str = "modern-indexed";
 
-/// The indexed file with the length word that old releases gave to colour
-/// maps: a byte for each colour, not three, and the count's word.
+/// Where the image's list of properties starts: in a version with a precision,
+/// behind it.
+fn list_place(file: &[u8]) -> usize {
+    let version = version::of_tag(&file[9..14]).expect("a version");
+    if version::has_precision(version) {
+        30
+    } else {
+        26
+    }
+}
+
+/// An indexed file with the length word that old releases gave to colour maps:
+/// a byte for each colour, not three, and the count's word.
 pub fn with_old_map_length(indexed: &[u8]) -> Vec<u8> {
-    let word = |place| word_at(indexed, place);
-    let count = word(34);
-    assert_eq!([word(26), word(30)], [1, 3 * count + 4]);
-    with(indexed, &[(30, count + 4)])
+    let place = list_place(indexed);
+    let [kind, length, count] = [0, 4, 8].map(|offset| word_at(indexed, place + offset));
+    assert_eq!([kind, length], [1, 3 * count + 4]);
+    with(indexed, &[(place + 4, count + 4)])
 }
 
 /// What GIMP says of an image.

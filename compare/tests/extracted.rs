@@ -21,12 +21,14 @@ struct Sample {
     status: Status,
 }
 
-const SAMPLES: [Sample; 6] = [
+const SAMPLES: [Sample; 8] = [
     Sample::good("indexed", 1, 2),
     Sample::good("indexed", 0, 3),
     Sample::good("colours", 2, 4),
     Sample::good("groups", 4, 5),
     Sample::good("modes", 1, 5),
+    Sample::good("modern", 2, 4),
+    Sample::good("modern-grey", 0, 3),
     Sample {
         name: "chart-damaged",
         row: 0,

@@ -1,12 +1,18 @@
 //! Files that GIMP wrote, made by `data/make`: all that GIMP says of them, and
-//! every pixel that it reads in them, is what the implementations give.
+//! every pixel that it reads in them, is what the implementations give. Those
+//! of its files that the rules do not take are refused where they say.
 
 use std::fs;
 use std::path::PathBuf;
 
-use xcf_compare::answer::{LIST_LIMIT, OVERRUN, ReadAnswer, Row, TABLE_LENGTH};
+use xcf_compare::answer::{
+    BAD_CONTENT, BAD_PRECISION, FLOATING_SELECTION, LIST_LIMIT, ListAnswer, OVERRUN, ReadAnswer,
+    Row, TABLE_LENGTH, UNKNOWN_VERSION,
+};
 use xcf_compare::decode::Drawable;
-use xcf_compare::gimp::{Facts, INDEXED_FILE, data_folder, with_old_map_length, without_places};
+use xcf_compare::gimp::{
+    Facts, INDEXED_FILE, MODERN_INDEXED_FILE, data_folder, with_old_map_length, without_places,
+};
 use xcf_compare::guard::{Guarded, difference};
 use xcf_compare::implementation::agree;
 use xcf_compare::list::{TEXT_LENGTH, list};
@@ -18,11 +24,23 @@ const DAMAGED_ROW: usize = 0;
 const DAMAGED_TILE: usize = 5;
 
 /// The files that are compared, and the drawables in them.
-const FILES: usize = 8;
-const DRAWABLES: usize = 50;
+const FILES: usize = 12;
+const DRAWABLES: usize = 73;
 
 fn data_file(name: &str) -> PathBuf {
     data_folder().join(name)
+}
+
+/// What reading a file gives and leaves in the table: all must agree.
+fn read(name: &str, file: &[u8]) -> (ReadAnswer, Vec<u32>) {
+    let (answer, [table]) = agree(
+        || name.to_string(),
+        |by| {
+            let mut table = Guarded::new(&[0xA5A5_A5A5; TABLE_LENGTH]);
+            ((by.read)(file, table.lent()), [table])
+        },
+    );
+    (answer, table)
 }
 
 /// A file of the folder, and what reading it gives.
@@ -42,14 +60,8 @@ impl Sample {
 
     /// Reads the bytes of a file: all must accept it and agree.
     fn of(name: &str, file: Vec<u8>) -> Self {
-        let (answer, [table]) = agree(
-            || name.to_string(),
-            |by| {
-                let mut table = Guarded::new(&[0xA5A5_A5A5; TABLE_LENGTH]);
-                ((by.read)(&file, table.lent()), [table])
-            },
-        );
-        assert_eq!(answer.number, 0, "{name}");
+        let (answer, table) = read(name, &file);
+        assert_eq!((answer.number, answer.place), (0, 0), "{name}");
         Sample {
             name: name.to_string(),
             file,
@@ -78,22 +90,22 @@ impl Sample {
     fn decode(&self, row: usize) -> (Vec<u8>, Vec<u8>) {
         let drawable = self.drawable(row);
         let lengths = [drawable.pixels_length(), drawable.tile_count()];
-        let (file, table, compression) = (&self.file, &self.table, self.answer.compression as u32);
+        let (file, table, [compression, size]) = (&self.file, &self.table, self.answer.form());
         let what = || format!("{}, row {row}", self.name);
         let (answer, [pixels, marks]) = agree(what, |by| {
             let mut lent = lengths.map(|length| Guarded::new(&vec![0xA5; length]));
             let [pixels, marks] = lent.each_mut().map(Guarded::lent);
-            let answer = (by.decode)(file, table, row as u32, compression, pixels, marks);
+            let answer = (by.decode)(file, table, row as u32, compression, size, pixels, marks);
             (answer, lent)
         });
-        let counted = library::count_marked(file, table, row as u32, compression);
+        let counted = library::count_marked(file, table, row as u32, compression, size);
         assert_eq!(counted, answer, "{}", what());
         (pixels, marks)
     }
 
     fn drawable(&self, row: usize) -> Drawable {
-        let compression = self.answer.compression as u32;
-        Drawable::new(&self.file, &self.table, row as u32, compression).expect("a row")
+        let [compression, size] = self.answer.form();
+        Drawable::new(&self.file, &self.table, row as u32, compression, size).expect("a row")
     }
 
     /// The pixels of a row as GIMP reads them.
@@ -104,7 +116,12 @@ impl Sample {
 
 /// The names of the folder's files that end so, without that end, sorted.
 fn names_with(end: &str) -> Vec<String> {
-    let entries = fs::read_dir(data_folder()).unwrap();
+    names_in(data_folder(), end)
+}
+
+/// The same of any folder.
+fn names_in(folder: PathBuf, end: &str) -> Vec<String> {
+    let entries = fs::read_dir(folder).unwrap();
     let names = entries.map(|entry| entry.unwrap().file_name().into_string().unwrap());
     let mut names: Vec<String> = names
         .filter_map(|name| name.strip_suffix(end).map(str::to_string))
@@ -167,10 +184,18 @@ fn listed_numbers(line: &str) -> (Vec<u32>, u32) {
 
 /// The library's listing of a file; it leaves the table as the reader does.
 fn listing(sample: &Sample) -> String {
+    listing_of(&sample.name, &sample.file, &sample.answer, &sample.table)
+}
+
+/// The library's listing of bytes for which the reader gives this answer and
+/// table.
+fn listing_of(name: &str, file: &[u8], read: &ReadAnswer, read_table: &[u32]) -> String {
     let (mut table, mut text) = (vec![0xA5; TABLE_LENGTH], vec![0xA5; TEXT_LENGTH]);
-    let answer = library::list(&sample.file, &mut table, &mut text);
-    assert_eq!((answer.number, answer.place), (0, 0), "{}", sample.name);
-    assert_eq!(difference(&table, &sample.table), None, "{}", sample.name);
+    let answer = library::list(file, &mut table, &mut text);
+    let ListAnswer { refused, at, .. } = answer;
+    assert_eq!((answer.number, answer.place), (0, 0), "{name}");
+    assert_eq!((refused, at), (read.number, read.place), "{name}");
+    assert_eq!(difference(&table, read_table), None, "{name}");
     text.truncate(answer.length as usize);
     String::from_utf8(text).expect("ASCII")
 }
@@ -234,16 +259,109 @@ fn one_tile_is_damaged() {
 /// reads and decodes as before.
 #[test]
 fn old_length_of_a_colour_map() {
-    let whole = Sample::new(INDEXED_FILE);
-    let old = Sample::of("indexed, old length", with_old_map_length(&whole.file));
-    assert_eq!(old.answer, whole.answer);
-    assert_eq!(difference(&old.table, &whole.table), None);
-    assert_listed(&old, |_| 0);
-    for row in 0..whole.rows().len() {
-        let decoded = old.decode(row);
-        assert!(decoded == whole.decode(row), "row {row}");
-        assert_eq!(difference(&decoded.0, &whole.exported(row)), None);
+    for name in [INDEXED_FILE, MODERN_INDEXED_FILE] {
+        let whole = Sample::new(name);
+        let old = Sample::of(&format!("{name}, old"), with_old_map_length(&whole.file));
+        assert_eq!(old.answer, whole.answer);
+        assert_eq!(difference(&old.table, &whole.table), None);
+        assert_listed(&old, |_| 0);
+        for row in 0..whole.rows().len() {
+            let decoded = old.decode(row);
+            assert!(decoded == whole.decode(row), "{name}, row {row}");
+            assert_eq!(difference(&decoded.0, &whole.exported(row)), None);
+        }
     }
+}
+
+/// A file of GIMP's that is refused, in the folder's folder of these.
+struct Refused {
+    name: &'static str,
+    number: u64,
+    place: usize,
+    /// What stands at that place.
+    fault: &'static [u8],
+    /// What makes it a file that is accepted, if so much does.
+    repair: Option<&'static [u8]>,
+}
+
+const REFUSED: [Refused; 5] = [
+    // eight-bit linear; 150 is taken
+    Refused {
+        name: "linear",
+        number: BAD_PRECISION,
+        place: 26,
+        fault: &[0, 0, 0, 100],
+        repair: Some(&[0, 0, 0, 150]),
+    },
+    // the compression of zlib
+    Refused {
+        name: "zlib",
+        number: BAD_CONTENT,
+        place: 38,
+        fault: &[2],
+        repair: Some(&[1]),
+    },
+    // a type 5 of 8 bytes; an unknown type is skipped by that length
+    Refused {
+        name: "floating",
+        number: FLOATING_SELECTION,
+        place: 365,
+        fault: &[0, 0, 0, 5, 0, 0, 0, 8],
+        repair: Some(&[0, 0, 0, 99]),
+    },
+    // 16 bits for a colour, and a mode older than version 10
+    Refused {
+        name: "sixteen",
+        number: UNKNOWN_VERSION,
+        place: 9,
+        fault: b"v012\0",
+        repair: None,
+    },
+    Refused {
+        name: "overlay",
+        number: UNKNOWN_VERSION,
+        place: 9,
+        fault: b"v009\0",
+        repair: None,
+    },
+];
+
+impl Refused {
+    fn folder() -> PathBuf {
+        data_file("refused")
+    }
+
+    fn file(&self) -> Vec<u8> {
+        fs::read(Refused::folder().join(format!("{}.xcf", self.name))).unwrap()
+    }
+
+    /// The file with other bytes where its fault is.
+    fn repaired(&self, repair: &[u8]) -> Sample {
+        let mut file = self.file();
+        file[self.place..][..repair.len()].copy_from_slice(repair);
+        Sample::of(&format!("{}, repaired", self.name), file)
+    }
+}
+
+/// Files that GIMP writes and the rules do not take are refused at the fault;
+/// those of version 11 have no other.
+#[test]
+fn refused_at_the_fault() {
+    for refused in &REFUSED {
+        let (name, number, place) = (refused.name, refused.number, refused.place);
+        let file = refused.file();
+        assert!(file[place..].starts_with(refused.fault), "{name}");
+        let (answer, table) = read(name, &file);
+        assert_eq!(answer, ReadAnswer::refused(number, place as u64), "{name}");
+        assert_eq!(difference(&table, &[0; TABLE_LENGTH]), None, "{name}");
+        let line = format!("refused {number} at {place}\n");
+        assert_eq!(listing_of(name, &file, &answer, &table), line);
+        assert_eq!(list(&file), line, "{name}");
+        if let Some(repair) = refused.repair {
+            assert_eq!(refused.repaired(repair).answer.version, 11, "{name}");
+        }
+    }
+    assert_eq!(names_in(Refused::folder(), ".xcf").len(), REFUSED.len());
 }
 
 /// Which values a field or an answer has, in order and each once.
@@ -254,24 +372,40 @@ fn values<T: Ord>(all: impl Iterator<Item = T>) -> Vec<T> {
     values
 }
 
-/// The folder has what it is there for, and nothing that is not compared.
+/// The folder has nothing that is not compared, and what it is there for in
+/// files of either size of pointers.
 #[test]
 fn samples_are_varied() {
     let samples = Sample::all();
     assert_eq!(samples.len(), FILES);
     assert_eq!(names_with(".txt").len(), FILES);
     assert_eq!(names_with(".raw").len(), DRAWABLES);
+    let (modern, old): (Vec<Sample>, Vec<Sample>) = samples
+        .into_iter()
+        .partition(|sample| sample.name.starts_with("modern"));
+    assert_varied(&old, &[0, 1, 2, 3], 4, 20);
+    assert_varied(&modern, &[11], 8, 6);
+}
+
+/// Files of these versions have this size of pointers and this number of modes;
+/// all bases, kinds and types of layers, each flag set and not set, and offsets
+/// to both sides are among them.
+fn assert_varied(samples: &[Sample], versions: &[u64], pointer_size: u64, modes: usize) {
     let answers = || samples.iter().map(|sample| sample.answer);
-    assert_eq!(values(answers().map(|answer| answer.version)), [0, 1, 2, 3]);
+    assert_eq!(values(answers().map(|answer| answer.version)), versions);
+    assert_eq!(
+        values(answers().map(|answer| answer.pointer_size)),
+        [pointer_size]
+    );
     assert_eq!(values(answers().map(|answer| answer.base)), [0, 1, 2]);
     let rows = || samples.iter().flat_map(Sample::rows);
     assert_eq!(values(rows().map(|row| row[0])), [1, 2, 3]);
     let layers = || rows().filter(|row| row[0] == 1);
     assert_eq!(values(layers().map(|row| row[4])), [0, 1, 2, 3, 4, 5]);
-    assert_eq!(values(rows().map(|row| row[14])).len(), 20);
+    assert_eq!(values(rows().map(|row| row[14])).len(), modes);
     for flag in [1, 2, 4, 8, 16] {
         let set = rows().filter(|row| row[11] & flag != 0).count();
-        assert!((1..DRAWABLES).contains(&set), "flag {flag}: {set}");
+        assert!((1..rows().count()).contains(&set), "flag {flag}: {set}");
     }
     for field in [12, 13] {
         assert!(rows().any(|row| (row[field] as i32) < 0));
