@@ -32,6 +32,19 @@ const BANDS: [&str; 6] = [
     "index alpha",
 ];
 
+/// The greatest mode that is written; newer versions have others.
+const WRITTEN_MODES: usize = 21;
+
+/// The files that are refused, and what `xcf list` prints of each: a floating
+/// selection, linear precision, two of versions that are not read, and zlib.
+const REFUSED: [(&str, &str); 5] = [
+    ("floating.xcf", "refused 16 at 365\n"),
+    ("linear.xcf", "refused 25 at 26\n"),
+    ("overlay.xcf", "refused 3 at 9\n"),
+    ("sixteen.xcf", "refused 3 at 9\n"),
+    ("zlib.xcf", "refused 7 at 38\n"),
+];
+
 fn data() -> PathBuf {
     Path::new(env!("CARGO_MANIFEST_DIR")).join("../compare/data")
 }
@@ -74,6 +87,21 @@ fn every_command_runs_on_every_file() {
         "only {count} files of GIMP's in {}",
         data().display()
     );
+}
+
+#[test]
+fn files_that_are_not_read_are_refused() {
+    let refused = data().join("refused");
+    assert_eq!(names_in(&refused), REFUSED.map(|(file, _)| file));
+    for (file, listing) in REFUSED {
+        let bytes = fs::read(refused.join(file)).expect("a file of the folder");
+        let folder = Folder::with(file, &bytes);
+        folder.run(["list", file]).is(1, listing, "");
+        let said = format!("{file}: {}: ", listing.trim_end());
+        let checked = folder.run(["check", file]);
+        assert!(checked.text().starts_with(&said), "{checked:?}");
+        folder.run(["show", file]).fails(1, &[&said]);
+    }
 }
 
 impl Sample {
@@ -211,7 +239,8 @@ impl Sample {
 
 impl Sample {
     /// Packs the extracted rows, and holds the new file to the old one's
-    /// numbers. Palettes and groups are not written: an index becomes a grey.
+    /// numbers. Palettes, groups and newer modes are not written: an index
+    /// becomes a grey, and such a mode normal.
     fn is_packed(&self) {
         let folder = &self.folder;
         if self.listing.bad() > 0 {
@@ -229,6 +258,7 @@ impl Sample {
             let mut fields = row.fields;
             fields[4] -= if fields[4] > 3 { 2 } else { 0 };
             fields[11] &= 15;
+            fields[14] = written_mode(fields[14]);
             for place in [5, 7, 8] {
                 fields[place] = new.fields[place];
             }
@@ -263,7 +293,8 @@ impl Sample {
         let mut said = format!("--opacity {}", fields[10]);
         if row.kind == "layer" {
             let (x, y) = row.offset();
-            said += &format!(" --offset {x},{y} --mode {}", fields[14]);
+            let mode = written_mode(fields[14]);
+            said += &format!(" --offset {x},{y} --mode {mode}");
         }
         let applied = self.listing.rows[fields[15]].fields[11] & 2 != 0;
         let flags = [
@@ -288,6 +319,14 @@ impl Sample {
             .windows(7)
             .position(|bytes| bytes == b"ENDHDR\n");
         extracted.stdout[end.expect("a header") + 7..].to_vec()
+    }
+}
+
+/// The mode that a layer is packed with.
+fn written_mode(mode: usize) -> usize {
+    match mode {
+        0..=WRITTEN_MODES => mode,
+        _ => 0,
     }
 }
 
