@@ -21,7 +21,7 @@ use Rattle.xcf_window.specs.Usable.{fits, rowRefusal}
 abbrev pub refusal : ℕ → ℕ → DecodeAnswer
 refusal n p = record { number = n; place = p; marked = 0 }
 
--- the walk over the tile pointers is refused at the lowest bad word
+-- the walk over the tile pointers is refused at the lowest bad one
 abbrev pub pointersRefusal : Outcome (Unit {0}) → DecodeAnswer
 pointersRefusal (got u q) = refusal Refusal.accepted 0
 pointersRefusal (refused n p) = refusal n p

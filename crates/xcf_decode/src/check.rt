@@ -31,7 +31,7 @@ fn fits_lent(row: Row, lent: Lent) -> bool
     }
 }
 
-// 13 at the lowest bad word of the row's tile pointers, or number 0.
+// 13 at the lowest bad one of the row's tile pointers, or number 0.
 fn pointers_refusal(file: &[u8], row: Row, size: usize) -> DecodeAnswer
     requires { ⌜ PointerSize size ⌝ }
     ensures { λ r. ⌜ r ≡ pointersRefusal (run (tiles size (row .count) 0) (now (file .entry)) (row .pointers)) ⌝ }

@@ -52,11 +52,11 @@ wrongBuffer = 11
 abbrev pub unendedString : ℕ
 unendedString = 12
 
--- a tile pointer, or the word that closes them, breaks its rule
+-- a tile pointer, or the one that closes them, breaks its rule
 abbrev pub badTilePointer : ℕ
 badTilePointer = 13
 
--- a row, tile or compression that cannot be decoded or encoded
+-- a row, tile, compression or size of pointers that cannot be decoded or encoded
 abbrev pub unusable : ℕ
 unusable = 14
 

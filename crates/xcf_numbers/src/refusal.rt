@@ -38,10 +38,10 @@ pub const WRONG_BUFFER: u64 = 11;
 // The last of a string's bytes is not zero.
 pub const UNENDED_STRING: u32 = 12;
 
-// A tile pointer, or the word that closes them, breaks its rule.
+// A tile pointer, or the one that closes them, breaks its rule.
 pub const BAD_TILE_POINTER: u32 = 13;
 
-// A row, tile or compression that cannot be decoded or encoded.
+// A row, tile, compression or size of pointers that cannot be decoded or encoded.
 pub const UNUSABLE: u64 = 14;
 
 // The file is too long.

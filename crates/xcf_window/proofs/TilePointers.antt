@@ -1,4 +1,4 @@
--- A walk over tile pointers that was taken: where it ends (`tiles-end`), so that the file has them and the closing word
+-- A walk over tile pointers that was taken: where it ends (`tiles-end`), so that the file has them and the closing one
 -- (`tiles-inside`); that each pointer is below the file's length (`tiles-below`) and the next pointer (`tiles-rise`), so that every
 -- window lies in the file (`window-inside`). By induction over the tiles.
 -- Assumes nothing.

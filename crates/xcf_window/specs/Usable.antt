@@ -16,7 +16,7 @@ inRange r =
     within Kind.layer Kind.channel (r .kind)
     && (within 1 sideLimit (r .width) && (within 1 sideLimit (r .height) && within 1 depthLimit (r .depth)))
 
--- as many tiles as the sides take; their pointers end, with the closing word, within the file
+-- as many tiles as the sides take; their pointers end, with the closing one, within the file
 unfoldable pub inFile : ℕ → ℕ → Row → Bool
 inFile size fileLength r = eqb (r .count) (tileCount (r .width) (r .height)) && leb (r .pointers + size * (r .count + 1)) fileLength
 

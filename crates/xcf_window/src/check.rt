@@ -35,7 +35,7 @@ fn in_range(row: Row) -> bool
     true
 }
 
-// Whether the row's tiles are as many as its sides take, and their pointers and the closing word lie in a file of this length.
+// Whether the row's tiles are as many as its sides take, and their pointers and the closing one lie in a file of this length.
 fn in_file(length: usize, row: Row, size: usize) -> bool
     requires { ⌜ PointerSize size ⌝ }
     ensures { λ r. ⌜ r ≡ inFile size length row ⌝ }

@@ -1,4 +1,4 @@
--- `in_file` meets its contract: its two tests are the definition's, of the count and of the closing word's place.
+-- `in_file` meets its contract: its two tests are the definition's, of the count and of the closing pointer's place.
 use Prim.Native.Nat.{_+_, _*_, _≤_}
 use mathlib.Core.Path.{sym, _∙_}
 use native.Mathlib.Nat.{mul-le-mul-right}
@@ -11,7 +11,7 @@ use Rattle.xcf_window.specs.Usable.{inFile}
 use Rattle.xcf_window.proofs.check.in_file.Statement.{statement}
 use Rattle.xcf_window.proofs.check.in_file.Tie as tie
 
--- the pointers and the closing word have few bytes
+-- the pointers and the closing one have few bytes
 most : (c : tie.Else1) → let s = c .before .before .before in s .args .size * (s .args .row .count + 1) ≤ 8 * (s .args .row .count + 1)
 most c = let s = c .before .before .before in mul-le-mul-right (s .args .row .count + 1) (some-bytes (s .pre) .1)
 
