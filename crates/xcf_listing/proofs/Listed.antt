@@ -6,7 +6,7 @@ use mathlib.Core.Path.{_≡_, refl, sym, ap, _∙_}
 use mathlib.Core.List.{List, _++_}
 use mathlib.Core.Bool.{true, false, and-eq-true-iff}
 use mathlib.Core.Logic.{⊎-elim}
-use Prim.Native.Nat.{ℕ, _*_, _≤_, _<_}
+use Prim.Native.Nat.{ℕ, _≤_, _<_}
 use native.Mathlib.Nat.{zero-add}
 use native.Mathlib.Omega.{arith}
 use borrow.Author.Tests.{le-leb, lt-leb, eq-eqb, ne-eqb, leb-true}
@@ -18,8 +18,6 @@ use Rattle.xcf_numbers.specs.Kind
 use Rattle.xcf_numbers.specs.Refusal
 use Rattle.io.specs.Counts.{Counts}
 use Rattle.xcf_store.specs.Put.{PutWithin}
-use Rattle.xcf_store.proofs.Stores.{within-append, within-more}
-use Rattle.xcf_text.specs.Text.{lineSize}
 use Rattle.xcf_walk.specs.Walk.{Outcome, got, refused, run}
 use Rattle.xcf_laws.proofs.Cases.{below-or, by-cases}
 use Rattle.xcf_table.specs.Table.{rowAt}

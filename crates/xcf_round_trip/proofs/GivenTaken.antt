@@ -12,7 +12,6 @@ use Rattle.xcf_walk.specs.Walk.{got, run}
 use Rattle.xcf_laws.proofs.Cases.{below-or}
 use Rattle.xcf_table.specs.declared.Row.{Row}
 use Rattle.xcf_table.specs.Table.{rowAt, tableOf}
-use Rattle.xcf_store.specs.Pointer.{narrow}
 use Rattle.xcf_read.specs.Image.{Image, canvasOf, image}
 use Rattle.xcf_read.specs.Answer.{Reading, readingOf, reading}
 use Rattle.xcf_table.proofs.Tables.{table-row, table-unused}

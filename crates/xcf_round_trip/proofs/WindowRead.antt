@@ -12,7 +12,7 @@ use lib.Dec.{ltb}
 use lib.ListN.{length, getD, take, drop, take-append-drop}
 use lib.Seq.{take-take}
 use Rattle.xcf_numbers.specs.Limit.{fileLimit}
-use Rattle.xcf_store.specs.Word.{part, bigEndian, words}
+use Rattle.xcf_store.specs.Word.{part, words}
 use Rattle.xcf_table.specs.declared.Row.{Row}
 use Rattle.xcf_tile.specs.Tile.{tileOf}
 use Rattle.xcf_laws.proofs.Cases.{by-cases}

@@ -1,9 +1,9 @@
 -- The example file (RULES, "Examples") is listed: it is read as `example-read` says, and its tile, its lines and their length are
 -- computed.
 -- Assumes nothing.
-use Prim.Native.Nat.{ℕ, _-_}
-use mathlib.Core.Path.{_≡_, refl, _∙_}
-use mathlib.Core.List.{List, _++_, flatMap}
+use Prim.Native.Nat.{_-_}
+use mathlib.Core.Path.{_≡_, refl}
+use mathlib.Core.List.{_++_, flatMap}
 use lib.ListN.{replicate}
 use Rattle.xcf_numbers.specs.Limit.{rowSize, tableSize}
 use Rattle.xcf_walk.specs.Walk.{run, bytes, here, must, fileLength}

@@ -17,7 +17,7 @@ use Rattle.xcf_table.specs.Table.{tableOf}
 use Rattle.xcf_parse.specs.Header.{same, placeIn, header}
 use Rattle.xcf_table.specs.Canvas.{sideOk}
 use Rattle.xcf_parse.specs.Drawable.{side}
-use Rattle.xcf_parse.specs.Image.{pointerSize, baseOk, baseType, precision, head}
+use Rattle.xcf_parse.specs.Image.{baseOk, baseType, precision, head}
 use Rattle.xcf_read.specs.Image.{Image, drawables, canvasOf, allRows, image}
 use Rattle.xcf_read.specs.Answer.{reading}
 use Rattle.xcf_read_laws.proofs.Accepted.{read-walked}

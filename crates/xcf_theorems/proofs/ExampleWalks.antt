@@ -21,7 +21,7 @@ use Rattle.xcf_table.specs.Canvas.{sideOk}
 use Rattle.xcf_parse.specs.Drawable.{side, sideLike, fields, channel}
 use Rattle.xcf_row.specs.Row.{flag, nameFlag, channelFlags, channelRow, channelOwner}
 use Rattle.xcf_read.specs.Drawable.{channelRows, canvasChannelRows}
-use Rattle.xcf_parse.specs.Image.{pointerSize, baseOk, baseType, precision, head}
+use Rattle.xcf_parse.specs.Image.{baseOk, baseType, precision, head}
 use Rattle.xcf_read.specs.Image.{Image, drawables, canvasOf, allRows, image}
 use Rattle.xcf_theorems.specs.ExampleFile.{exampleNamed, exampleFile, exampleFlagged}
 use Rattle.xcf_theorems.specs.DamagedExample.{wideFile}

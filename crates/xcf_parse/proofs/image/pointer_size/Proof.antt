@@ -1,6 +1,5 @@
 -- `pointer_size` meets its contract: its test is the definition's.
 use borrow.Author.Tests.{eq-eqb, ne-eqb}
-use Rattle.xcf_parse.specs.Image.{pointerSize}
 use Rattle.xcf_parse.proofs.image.pointer_size.Statement.{statement}
 use Rattle.xcf_parse.proofs.image.pointer_size.Tie as tie
 

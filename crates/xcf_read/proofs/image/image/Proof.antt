@@ -1,7 +1,6 @@
 -- `image` meets its contract: the head and all rows are the walk's do block, for pointers of the version's size (`version-sized`).
 use Prim.Native.Nat.{_≤_}
 use mathlib.Core.Path.{_∙_}
-use native.Mathlib.Omega.{arith}
 use borrow.Author.Needs.{needs}
 use Rattle.xcf_numbers.specs.Limit.{sideLimit}
 use Rattle.xcf_walk.proofs.Resume.{then, ends}
