@@ -24,7 +24,7 @@ pub const DISAGREES: u64 = 10;
 pub const WRONG_LENGTH: u64 = 11;
 /// A string has bytes, and the last is not zero.
 pub const UNENDED_STRING: u64 = 12;
-/// A tile pointer, or the word that closes them, breaks its rule.
+/// A tile pointer, or the zero that closes them, breaks its rule.
 pub const BAD_TILE_POINTER: u64 = 13;
 /// A row, side, depth, compression or pointer size that is not decoded or encoded.
 pub const UNUSABLE: u64 = 14;

@@ -7,6 +7,7 @@ use crate::answer::{
     BAD_TILE_POINTER, DecodeAnswer, FILE_LIMIT, FILE_TOO_LONG, GOOD, ROW_LENGTH, SIDE_LIMIT,
     TABLE_LENGTH, UNUSABLE, WINDOW_LIMIT, WRONG_LENGTH,
 };
+use crate::read::number;
 use crate::tile;
 
 /// The longest side of a tile.
@@ -110,10 +111,9 @@ impl Drawable {
 
     /// The tile pointers, and what closes them.
     fn pointers(&self, file: &[u8]) -> Vec<u64> {
-        let append = |high, &byte| high << 8 | u64::from(byte);
         file[self.place..self.pointers_end()]
             .chunks(self.pointer_size)
-            .map(|bytes| bytes.iter().fold(0, append))
+            .map(number)
             .collect()
     }
 

@@ -12,6 +12,7 @@ use std::ops::Range;
 use crate::answer::{
     FILE_LIMIT, FILE_TOO_LONG, ROW_LENGTH, ReadAnswer, TABLE_LENGTH, WRONG_LENGTH,
 };
+pub(crate) use cursor::number;
 use image::Image;
 
 /// Why a file is refused, and where in it the fault stands.

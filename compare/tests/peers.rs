@@ -1,9 +1,10 @@
 //! What the library writes, opened in GIMP and in ImageMagick: both find the
-//! drawables that were lent, and the same pixels in them.
+//! drawables that were lent, and the same pixels in them. In version 11, GIMP
+//! does and the library itself.
 
 use std::fs;
 
-use xcf_compare::answer::{DecodeAnswer, Row, TABLE_LENGTH};
+use xcf_compare::answer::{DecodeAnswer, ReadAnswer, Row, TABLE_LENGTH};
 use xcf_compare::files::widened;
 use xcf_compare::gimp::{self, Facts, INDEXED_FILE, with_old_map_length, without_places};
 use xcf_compare::guard::difference;
@@ -162,8 +163,20 @@ fn assert_all_found_by_gimp(pictures: &[Picture], scratch: &Scratch) {
     }
 }
 
-/// The pictures in version 11, as the library reads them and as GIMP does: what
-/// was lent, all of it.
+/// What the library writes of a picture, in version 11.
+fn write_version_11(picture: &Picture) -> Vec<u8> {
+    widened(&write(picture))
+}
+
+#[test]
+fn library_reads_version_11() {
+    let pictures = pictures();
+    for picture in &pictures {
+        assert_found_by_library(picture, &write_version_11(picture));
+    }
+    report_found("the library, version 11", &pictures, |_| true);
+}
+
 #[test]
 fn gimp_opens_version_11() {
     if !is_here("gimp") {
@@ -171,20 +184,20 @@ fn gimp_opens_version_11() {
         return;
     }
     let pictures = pictures();
-    let file = |picture: &Picture| widened(&write(picture));
-    for picture in &pictures {
-        assert_found_by_library(picture, &file(picture));
-    }
-    assert_all_found_by_gimp(&pictures, &written(&pictures, "version-11", file));
+    let scratch = written(&pictures, "version-11", write_version_11);
+    assert_all_found_by_gimp(&pictures, &scratch);
     report_found("GIMP, version 11", &pictures, |_| true);
 }
 
-/// Asserts that the library finds the picture's rows and pixels in a file of
-/// version 11.
+/// Asserts that the library finds the picture's canvas, rows and pixels in a
+/// file of version 11.
 fn assert_found_by_library(picture: &Picture, file: &[u8]) {
     let (name, mut table) = (picture.name, vec![0; TABLE_LENGTH]);
     let answer = library::read(file, &mut table);
-    assert_eq!((answer.number, answer.version), (0, 11), "{name}");
+    let [width, height] = picture.sides.map(u64::from);
+    let image = [width, height, picture.base.into(), 11, 1];
+    let expected = ReadAnswer::accepted(image, picture.rows().len());
+    assert_eq!(answer, expected, "{name}");
     let rows: &[Row] = table.as_chunks().0;
     for (k, (lent, pixels)) in picture.rows().iter().zip(picture.drawables()).enumerate() {
         assert_eq!(without_places(&rows[k]), without_places(lent), "{name}");

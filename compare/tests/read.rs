@@ -4,7 +4,7 @@ use xcf_compare::answer::{
     FILE_LIMIT, FILE_TOO_LONG, NOT_XCF, PAST_END, ReadAnswer, Row, TABLE_LENGTH,
 };
 use xcf_compare::files::block::set_number;
-use xcf_compare::files::laid::{END, version_11, with, with_byte, words};
+use xcf_compare::files::laid::{END, pointers, version_11, with, with_byte, words};
 use xcf_compare::files::version::{pointer_size, tag};
 use xcf_compare::files::{EXAMPLE, FileCase, Kind, Known, random_case, random_file, table_of};
 use xcf_compare::guard::{Guarded, difference};
@@ -157,24 +157,30 @@ fn examples() -> [Vec<u8>; 2] {
     [EXAMPLE.to_vec(), version_11::example()]
 }
 
-/// The example with each of its bytes set to every value.
-#[test]
-fn every_byte_of_the_example_agrees() {
-    for example in examples() {
-        let mut tally = Tally::default();
-        for place in 0..example.len() {
-            for value in 0..=255 {
-                let file = with_byte(&example, place, value);
-                let (answer, _) = read_case(&file_case(file));
-                tally.add(Kind::Byte, answer.number);
-            }
-        }
-        tally.report("every byte");
-        assert!(tally.all(0) >= 1_000 && tally.all(1) >= 1_000);
-        for number in [2, 3, 4, 5, 6, 7, 9, 10, 12, 13] {
-            assert!(tally.all(number) > 0, "{number}");
+/// An example with each of its bytes set to every value: these refusals are met,
+/// and no others.
+fn assert_bytes_agree(example: &[u8], refusals: &[u64]) {
+    let mut tally = Tally::default();
+    for place in 0..example.len() {
+        for value in 0..=255 {
+            let file = with_byte(example, place, value);
+            let (answer, _) = read_case(&file_case(file));
+            tally.add(Kind::Byte, answer.number);
         }
     }
+    tally.report("every byte");
+    assert!(tally.all(0) >= 1_000 && tally.all(1) >= 1_000);
+    let met = |number: &u64| tally.all(*number) > 0;
+    let met: Vec<u64> = NUMBERS.into_iter().filter(met).collect();
+    assert_eq!(met, refusals);
+}
+
+/// Only in version 11 there is a precision to refuse.
+#[test]
+fn every_byte_of_the_example_agrees() {
+    assert_bytes_agree(&EXAMPLE, &[1, 2, 3, 4, 5, 6, 7, 9, 10, 12, 13]);
+    let long = [1, 2, 3, 4, 5, 6, 7, 9, 10, 12, 13, 25];
+    assert_bytes_agree(&version_11::example(), &long);
 }
 
 /// Every word of the example, at every place, set to each limit and its
@@ -285,12 +291,6 @@ fn file_limit() {
     assert_limited(&EXAMPLE, 4, row);
     let row = [3, 1, 1, 1, 2, 83, 1, 85, 161, 1, 255, 1, 0, 0, 0, 0];
     assert_limited(&version_11::example(), 8, row);
-}
-
-/// Pointers as bytes, so many for each.
-fn pointers(size: usize, numbers: impl IntoIterator<Item = u64>) -> Vec<u8> {
-    let bytes = |number: u64| number.to_be_bytes().into_iter().skip(8 - size);
-    numbers.into_iter().flat_map(bytes).collect()
 }
 
 /// An example with the largest sides, which stand at the places: 65,536 tile

@@ -41,8 +41,9 @@ impl<'a, const N: usize> Drawable<'a, N> {
         })
     }
 
-    /// The place of the lowest bad word, if there is one.
-    fn bad_word(&self, file_length: usize) -> Option<usize> {
+    /// The place of the lowest bad pointer, which may be the closing one, if there
+    /// is one.
+    fn bad_pointer(&self, file_length: usize) -> Option<usize> {
         let closing = (self.closing != [0; N]).then_some(self.pointers.len());
         let bad = first_bad(self.pointers, file_length).or(closing);
         bad.map(|index| self.place + N * index)
@@ -102,7 +103,7 @@ fn decode_row<const N: usize>(
     let drawable = Drawable::<N>::new(file, row).ok_or(Fault::Unusable.at(0))?;
     Fault::WrongLength.unless(pixels.len() == pixels_length(row))?;
     Fault::WrongLength.unless(marks.len() == drawable.pointers.len())?;
-    match drawable.bad_word(file.len()) {
+    match drawable.bad_pointer(file.len()) {
         Some(place) => Err(Fault::BadTilePointer.at(place)),
         None => drawable.decode(file, compression, pixels, marks),
     }

@@ -34,7 +34,7 @@ pub enum Kind {
     OtherSize,
     /// A table, pixels or marks of the wrong length.
     WrongLength,
-    /// A tile pointer, or the word that closes them, that breaks its rule.
+    /// A tile pointer, or the zero that closes them, that breaks its rule.
     Pointer,
     /// Up to four of the faults above.
     Several,

@@ -10,6 +10,12 @@ pub fn words(words: &[u32]) -> Vec<u8> {
     words.iter().flat_map(|word| word.to_be_bytes()).collect()
 }
 
+/// Pointers, or the zeros that end them, as bytes: so many for each.
+pub fn pointers(size: usize, pointers: impl IntoIterator<Item = u64>) -> Vec<u8> {
+    let bytes = |pointer: u64| pointer.to_be_bytes().into_iter().skip(8 - size);
+    pointers.into_iter().flat_map(bytes).collect()
+}
+
 /// A property with a payload of words.
 pub fn property(kind: u32, payload: &[u32]) -> Vec<u8> {
     [words(&[kind, 4 * payload.len() as u32]), words(payload)].concat()
@@ -30,20 +36,27 @@ pub fn lay(pieces: &[(usize, &[u8])]) -> Vec<u8> {
     file
 }
 
-/// The file with other words, each at its place.
-pub fn with(file: &[u8], changes: &[(usize, u32)]) -> Vec<u8> {
+/// The file with other bytes, so many at each place.
+fn with_bytes<const N: usize>(
+    file: &[u8],
+    changes: impl IntoIterator<Item = (usize, [u8; N])>,
+) -> Vec<u8> {
     let mut file = file.to_vec();
-    for &(place, word) in changes {
-        file[place..place + 4].copy_from_slice(&word.to_be_bytes());
+    for (place, bytes) in changes {
+        file[place..place + N].copy_from_slice(&bytes);
     }
     file
 }
 
+/// The file with other words, each at its place.
+pub fn with(file: &[u8], changes: &[(usize, u32)]) -> Vec<u8> {
+    let bytes = |&(place, word): &(usize, u32)| (place, word.to_be_bytes());
+    with_bytes(file, changes.iter().map(bytes))
+}
+
 /// The file with another byte.
 pub fn with_byte(file: &[u8], place: usize, byte: u8) -> Vec<u8> {
-    let mut file = file.to_vec();
-    file[place] = byte;
-    file
+    with_bytes(file, [(place, [byte])])
 }
 
 /// A canvas of one pixel up to its property list, which starts at 26.

@@ -16,7 +16,9 @@ struct Source<'a> {
     table: Vec<u32>,
 }
 
-/// The same image in version 11: the names, the lists and the tiles stay.
+/// The same image in version 11: the names and the lists stay, and each tile
+/// brings its whole window. That of a drawable's last tile goes on behind the
+/// tile, so what follows there comes along.
 pub fn widened(file: &[u8]) -> Vec<u8> {
     let mut table = vec![0; TABLE_LENGTH];
     let answer = read(file, &mut table);

@@ -7,7 +7,7 @@ mod tiles;
 
 use xcf_compare::answer::{CountMarked, DecodeAnswer, DecodeDrawable, Row};
 use xcf_compare::files::block::set_number;
-use xcf_compare::files::laid::{version_11, with};
+use xcf_compare::files::laid::version_11;
 use xcf_compare::files::{EXAMPLE, table_of};
 use xcf_compare::implementation::ALL;
 use xcf_compare::{decode, library};
@@ -72,14 +72,6 @@ impl Call {
         let mut call = self.clone();
         call.table[field] = value;
         call
-    }
-
-    /// The same call for a file with another word.
-    fn with_word(&self, place: usize, word: u32) -> Self {
-        Call {
-            file: with(&self.file, &[(place, word)]),
-            ..self.clone()
-        }
     }
 
     /// The same call for a file with another pointer of the size that is told.
@@ -181,7 +173,7 @@ fn drawable(sides: [u32; 2], depth: u32, compression: u32, tiles: &[&[u8]]) -> C
 }
 
 /// Two plain tiles side by side, at 13 and 77; the pointers are at 1 and 5,
-/// the closing word at 9, and the file has 78 bytes.
+/// the closing zero at 9, and the file has 78 bytes.
 fn pair() -> Call {
     drawable([65, 1], 1, 0, &[&[1; 64], &[2]])
 }

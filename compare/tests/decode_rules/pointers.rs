@@ -37,7 +37,7 @@ fn number_14_for_the_pointer_size() {
             // Before pixels, marks and pointers are looked at.
             call.told(size).lent(0, 0).assert_refused(14, 0);
             let place = call.table[8] as usize;
-            let bad = call.with_word(place, u32::MAX);
+            let bad = call.with_pointer(place, u64::MAX);
             bad.told(size).assert_refused(14, 0);
         }
     }

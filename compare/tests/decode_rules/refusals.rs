@@ -60,7 +60,7 @@ fn number_14_for_each_number_of_the_row() {
     }
 }
 
-/// The pointer and the closing word take 8 of the file's 143 bytes.
+/// The pointer and the closing zero take 8 of the file's 143 bytes.
 #[test]
 fn number_14_for_the_place_of_the_pointers() {
     let call = Call::example();
@@ -76,7 +76,7 @@ fn number_14_for_the_place_of_the_pointers() {
     ] {
         call.with_field(8, place).assert_refused(14, 0);
     }
-    // Here they are the file's last words, and the pointer is bad.
+    // Here they are the file's last bytes, and the pointer is bad.
     call.with_field(8, 135).assert_refused(13, 135);
 }
 
@@ -114,30 +114,33 @@ fn number_14_for_the_compression() {
 #[test]
 fn number_13() {
     let call = Call::example();
-    for pointer in [0, 143, 144, 1 << 31, u32::MAX] {
-        call.with_word(133, pointer).assert_refused(13, 133);
+    for pointer in [0, 143, 144, 1 << 31, u32::MAX.into()] {
+        call.with_pointer(133, pointer).assert_refused(13, 133);
     }
-    for closing in [1, 142, 1 << 24, u32::MAX] {
-        call.with_word(137, closing).assert_refused(13, 137);
+    for closing in [1, 142, 1 << 24, u32::MAX.into()] {
+        call.with_pointer(137, closing).assert_refused(13, 137);
     }
     let call = pair();
-    for pointer in [0, 1, 12, 13, 78, 79, u32::MAX] {
-        call.with_word(5, pointer).assert_refused(13, 5);
+    for pointer in [0, 1, 12, 13, 78, 79, u32::MAX.into()] {
+        call.with_pointer(5, pointer).assert_refused(13, 5);
     }
     // The first is good, and the second no longer above it.
-    call.with_word(1, 77).assert_refused(13, 5);
-    call.with_word(9, 77).assert_refused(13, 9);
+    call.with_pointer(1, 77).assert_refused(13, 5);
+    call.with_pointer(9, 77).assert_refused(13, 9);
 }
 
 #[test]
-fn number_13_at_the_lowest_bad_word() {
-    let bad = pair().with_word(1, 0).with_word(5, 78).with_word(9, 1);
+fn number_13_at_the_lowest_bad_pointer() {
+    let bad = pair()
+        .with_pointer(1, 0)
+        .with_pointer(5, 78)
+        .with_pointer(9, 1);
     bad.assert_refused(13, 1);
-    let bad = bad.with_word(1, 13);
+    let bad = bad.with_pointer(1, 13);
     bad.assert_refused(13, 5);
-    let bad = bad.with_word(5, 77);
+    let bad = bad.with_pointer(5, 77);
     bad.assert_refused(13, 9);
-    bad.with_word(9, 0)
+    bad.with_pointer(9, 0)
         .assert_decodes(&[0, 0], &[&[1; 64][..], &[2]].concat());
 }
 
@@ -149,7 +152,7 @@ fn row_before_the_lent_pixels_and_marks() {
 
 #[test]
 fn lent_pixels_and_marks_before_the_pointers() {
-    let call = Call::example().with_word(133, 0);
+    let call = Call::example().with_pointer(133, 0);
     call.lent(2, 1).assert_not_decoded(11, 0);
     call.lent(1, 0).assert_not_decoded(11, 0);
     call.assert_refused(13, 133);

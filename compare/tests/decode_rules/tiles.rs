@@ -113,7 +113,7 @@ fn last_window_runs_over_structures() {
     let wide = |width, compression| {
         let mut row = CHANNEL;
         row[1] = width;
-        Call::new(&EXAMPLE, row, compression).with_word(133, 131)
+        Call::new(&EXAMPLE, row, compression).with_pointer(133, 131)
     };
     wide(6, 1).assert_decodes(&[0], &[1, 0, 0x83, 0, 0, 0xFF]);
     wide(7, 1).assert_decodes(&[20], &[0; 7]);
@@ -153,7 +153,7 @@ fn shared_and_overlapping_windows() {
     call.assert_decodes(&[0, 0], &pixels);
     // The second window starts within the first tile's run: its value is the
     // second's opcode.
-    let inside = call.with_word(5, 14);
+    let inside = call.with_pointer(5, 14);
     inside.assert_decodes(&[20, 21], &[0; 65]);
     let mut shared = call.clone();
     let row = shared.table[..16].to_vec();

@@ -4,7 +4,9 @@
 use std::ops::Range;
 
 use xcf_compare::answer::{GOOD, ReadAnswer, Row, TOO_SOON, TileAnswer};
-use xcf_compare::files::laid::{lay, version_11, with, with_byte, words};
+use xcf_compare::files::block::{number_at, set_number};
+use xcf_compare::files::laid::{lay, pointers, version_11, with_byte};
+use xcf_compare::files::version::pointer_size;
 use xcf_compare::files::{EXAMPLE, table_of};
 use xcf_compare::implementation::ALL;
 use xcf_compare::library;
@@ -23,51 +25,57 @@ struct TwoChannels {
     opcodes: [usize; 2],
 }
 
-/// The example with its channel twice, at 59 and 147.
-fn short() -> TwoChannels {
-    let channel = |place: u32| {
-        let pointers = [(46, place + 50), (62, place + 70), (78, place + 86)];
-        with(&EXAMPLE[55..], &pointers)
+/// The example of a version with its channel, which starts at `channel` behind
+/// its pointer and a zero, twice: at the places. The pointers in the channel are
+/// so many bytes from its start.
+fn twice(
+    version: u32,
+    example: &[u8],
+    channel: usize,
+    inner: [usize; 3],
+    [first, second]: [usize; 2],
+) -> Vec<u8> {
+    let size = pointer_size(version);
+    let moved = |place: usize| {
+        let mut bytes = example[channel..].to_vec();
+        for at in inner {
+            let distance = number_at(&bytes, at, size) - channel as u64;
+            set_number(&mut bytes, at, size, place as u64 + distance);
+        }
+        bytes
     };
-    let file = lay(&[
-        (0, &EXAMPLE[..47]),
-        (47, &words(&[59, 147, 0])),
-        (59, &channel(59)),
-        (147, &channel(147)),
-    ]);
-    assert_eq!(file.len(), 235);
+    let start = channel - 2 * size;
+    let channels = [first as u64, second as u64, 0];
+    lay(&[
+        (0, &example[..start]),
+        (start, &pointers(size, channels)),
+        (first, &moved(first)),
+        (second, &moved(second)),
+    ])
+}
+
+/// The row of a channel with its name, list and tile pointer at the places.
+fn row([name, list, pointer]: [u32; 3], own: u32) -> Row {
+    [
+        3, 1, 1, 1, 2, name, 1, list, pointer, 1, 255, 1, 0, 0, 0, own,
+    ]
+}
+
+fn short() -> TwoChannels {
     TwoChannels {
-        file,
+        file: twice(0, &EXAMPLE, 55, [46, 62, 78], [59, 147]),
         version: 0,
-        rows: [
-            [3, 1, 1, 1, 2, 71, 1, 73, 137, 1, 255, 1, 0, 0, 0, 0],
-            [3, 1, 1, 1, 2, 159, 1, 161, 225, 1, 255, 1, 0, 0, 0, 1],
-        ],
+        rows: [row([71, 73, 137], 0), row([159, 161, 225], 1)],
         opcodes: [145, 233],
     }
 }
 
-/// The same in version 11, at 79 and 187.
 fn long() -> TwoChannels {
     let example = version_11::example();
-    let channel = |place: u64| {
-        let pointers = [(46, place + 54), (66, place + 82), (90, place + 106)];
-        version_11::with_pointers(&example[71..], &pointers)
-    };
-    let file = lay(&[
-        (0, &example[..55]),
-        (55, &version_11::pointers(&[79, 187, 0])),
-        (79, &channel(79)),
-        (187, &channel(187)),
-    ]);
-    assert_eq!(file.len(), 295);
     TwoChannels {
-        file,
+        file: twice(11, &example, 71, [46, 66, 90], [79, 187]),
         version: 11,
-        rows: [
-            [3, 1, 1, 1, 2, 91, 1, 93, 169, 1, 255, 1, 0, 0, 0, 0],
-            [3, 1, 1, 1, 2, 199, 1, 201, 277, 1, 255, 1, 0, 0, 0, 1],
-        ],
+        rows: [row([91, 93, 169], 0), row([199, 201, 277], 1)],
         opcodes: [185, 293],
     }
 }

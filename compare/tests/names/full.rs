@@ -5,7 +5,7 @@ use std::array;
 
 use xcf_compare::answer::{ReadAnswer, Row, TABLE_LENGTH, WriteAnswer};
 use xcf_compare::files::block::set_number;
-use xcf_compare::files::laid::{END, image_start, lay, version_11, words};
+use xcf_compare::files::laid::{END, image_start, lay, pointers, version_11, words};
 use xcf_compare::files::version::pointer_size;
 use xcf_compare::guard::difference;
 use xcf_compare::implementation::Implementation;
@@ -76,12 +76,8 @@ impl Form {
     }
 
     fn pointers(&self, places: &[usize]) -> Vec<u8> {
-        let size = self.pointer_size();
-        let mut bytes = vec![0; size * places.len()];
-        for (i, &place) in places.iter().enumerate() {
-            set_number(&mut bytes, size * i, size, place as u64);
-        }
-        bytes
+        let places = places.iter().map(|&place| place as u64);
+        pointers(self.pointer_size(), places)
     }
 
     /// The place of the image's pointer to a row; a mask has none.

@@ -108,7 +108,7 @@ fn high_words_are_not_zero() {
     assert_refused(&with_pointers(&layered(), &[(182, FAR)]), 13, 182);
 }
 
-/// Words behind the first level pointer are passed over up to eight zero bytes.
+/// Pointers behind the first level pointer are passed over up to eight zero bytes.
 #[test]
 fn the_end_of_a_hierarchy() {
     let file = layered();

@@ -1,22 +1,16 @@
 //! Files of version 11, laid out by hand.
 
-use super::{END, byte_property, lay, property, words};
+use super::{END, byte_property, lay, property, with_bytes, words};
 
 /// Pointers as bytes, or the zeros that end them.
 pub fn pointers(pointers: &[u64]) -> Vec<u8> {
-    pointers
-        .iter()
-        .flat_map(|place| place.to_be_bytes())
-        .collect()
+    super::pointers(8, pointers.iter().copied())
 }
 
 /// The file with other pointers, each at its place.
 pub fn with_pointers(file: &[u8], changes: &[(usize, u64)]) -> Vec<u8> {
-    let mut file = file.to_vec();
-    for &(place, pointer) in changes {
-        file[place..place + 8].copy_from_slice(&pointer.to_be_bytes());
-    }
-    file
+    let bytes = |&(place, pointer): &(usize, u64)| (place, pointer.to_be_bytes());
+    with_bytes(file, changes.iter().map(bytes))
 }
 
 /// A canvas of one pixel up to its property list, which starts at 30.
