@@ -29,7 +29,8 @@ pub record Damaged (f g : List ℕ) (x : Reading) (Chosen : ℕ → ℕ → Type
   pub structure : (i : ℕ) → (getD f i 0 ≡ getD g i 0 → ⊥) → structureByte f i → ⊥
   pub others : (i : ℕ) → (getD f i 0 ≡ getD g i 0 → ⊥) → (k t : ℕ) → IsTile x k t → (Chosen k t → ⊥) → InWindow (x .answer .size) f (rowOf x k) t i → ⊥
 
--- what the decodings d of f and e of g show of a row r, whose pointers have `size` bytes: its tiles that are not chosen, and the chosen ones by the rules
+-- what the decodings d of f and e of g show of a row r, whose pointers have `size` bytes: its tiles that are not chosen, and the chosen
+-- ones by the rules
 pub record RowIsolated (size : ℕ) (g : List ℕ) (r : Row) (compression : ℕ) (Chosen : ℕ → Type 0) (d e : Decoding) : Type 0 where
   pub accepted : (d .answer .number ≡ 0) × (e .answer .number ≡ 0)
   pub same : (t : ℕ) → t < r .count → (Chosen t → ⊥)

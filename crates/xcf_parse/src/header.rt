@@ -20,8 +20,10 @@ pub const V003: [u8; 5] = *b"v003\0";
 
 pub const V011: [u8; 5] = *b"v011\0";
 
-// The versions of these tags, in their order.
-const VERSIONS: [u32; 5] = [0, 1, 2, 3, version::WIDE];
+// How many tags there are, and their versions, in this order.
+const TAG_COUNT: u32 = 5;
+
+const VERSIONS: [u32; TAG_COUNT as usize] = [0, 1, 2, 3, version::WIDE];
 
 pub struct VersionRead {
     pub version: u32,
@@ -49,7 +51,7 @@ fn stands(file: &[u8], at: usize, want: &[u8]) -> bool
     true
 }
 
-// The number, among the tags, of the one that stands at a place, or 5.
+// The number, among the tags, of the one that stands at a place, or how many there are.
 fn tag_at(file: &[u8], at: usize) -> u32
     ensures { λ r. ⌜ r ≡ placeIn tags (part (now (file .entry)) at 5) ⌝ }
 {
@@ -68,14 +70,18 @@ fn tag_at(file: &[u8], at: usize) -> u32
     if stands(file, at, &V011) {
         return 4;
     }
-    5
+    TAG_COUNT
 }
 
 // The version of the tag of this number; 0 where there is none.
 fn version_of(tag: u32) -> u32
     ensures { λ r. ⌜ r ≡ getD versions tag 0 ⌝ }
 {
-    if tag < 5 { VERSIONS[tag as usize] } else { 0 }
+    if tag < TAG_COUNT {
+        VERSIONS[tag as usize]
+    } else {
+        0
+    }
 }
 
 pub(crate) fn header(cursor: Cursor, file: &[u8]) -> VersionRead
@@ -87,7 +93,7 @@ pub(crate) fn header(cursor: Cursor, file: &[u8]) -> VersionRead
     let at = second.at;
     let third = second.skip(file, 5);
     let tag = tag_at(file, at);
-    let next = third.check(tag < 5, refusal::BAD_VERSION, at);
+    let next = third.check(tag < TAG_COUNT, refusal::BAD_VERSION, at);
     VersionRead {
         version: version_of(tag),
         cursor: next,

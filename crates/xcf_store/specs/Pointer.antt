@@ -14,6 +14,7 @@ narrow = 4
 abbrev pub wide : ℕ
 wide = 8
 
+-- the test of a size, and the same as a condition
 unfoldable pub pointerSizeOk : ℕ → Bool
 pointerSizeOk size = eqb size narrow || eqb size wide
 

@@ -25,7 +25,7 @@ use Rattle.xcf_read_laws.proofs.Accepts.{accepts}
 use Rattle.xcf_read_laws.proofs.ReadDepends.{read-depends}
 use Rattle.xcf_read_laws.proofs.Numbers.{refusals-listed}
 use Rattle.xcf_read_laws.proofs.ReaderNumbers.{reader-listed}
-use Rattle.xcf_read_laws.proofs.Widths.{past-end, tile-past-end, precision-rule, lengths-floating, reading-sized}
+use Rattle.xcf_read_laws.proofs.Widths.{past-end, tile-past-end, precision-rule, lengths-floating, floating-rule, reading-sized}
 use Rattle.xcf_tile_laws.proofs.Marks.{mark-listed}
 use Rattle.xcf_tile_laws.proofs.TileNumbers.{tile-listed}
 use Rattle.xcf_tile_laws.proofs.GoodWhenValid.{tile-good-when-valid as good-when-valid}
@@ -48,7 +48,7 @@ use Rattle.xcf_theorems.proofs.ExampleWritten.{example-written, latin-r
 use Rattle.xcf_theorems.proofs.ExampleListed.{example-listed}
 use Rattle.xcf_theorems.proofs.ExampleDamaged.{example-damaged}
 use Rattle.xcf_theorems.proofs.ExampleKept.{example-kept}
-use Rattle.xcf_theorems.specs.Statements.{ReaderRefusalsAreListed, RefusalsAreListed, PassedBytesDecide, DecoderRefusalsAreListed, CounterRefusalsAreListed, TileRefusalsAreListed, MarksAreListed, EncoderRefusalsAreListed, WriterRefusalsAreListed, ListerRefusalsAreListed, ListerAnswersAsTheReader, AcceptedWithoutFault, ColourMapsAreTaken, ExampleMapsAreRead, VersionSizesPointers, PrecisionIsAsked, FloatingLengths, PointersPastTheEnd, OtherSizesAreUnusable, WellFormedIsText, NamesAreTold, ExampleNameIsTold, AcceptedRowsDecode, TileGoodWhenValid, DrawableTilesGoodWhenValid, CountIsOfTheMarks, CountIsTheDecoders, PixelsAreWhole, MarkedPixelsAreZero, PixelsAreStreams, PixelsAreTheirTiles, EachPixelHasOneTile, TilesAreShown, WrittenReadsBack, GivenRowsAreTaken, TakenRowsAreExcepted, EncodedStreamBounded, StreamReadsBack, TileReadsBack, EncodedTileFits, DamageIsIsolated, ExampleIsDamaged, GoodTileIsKept, GoodTilesAreKept, ExampleTileIsKept, StructureBytesDecide, ConsumedBytesDecide, ConsumedBytesDecideTheCall, ExamplesHold, ExampleFileIsRead, ExampleFileIsWritten, ExampleFileIsListed, ExampleOfVersion11IsRead}
+use Rattle.xcf_theorems.specs.Statements.{ReaderRefusalsAreListed, RefusalsAreListed, PassedBytesDecide, DecoderRefusalsAreListed, CounterRefusalsAreListed, TileRefusalsAreListed, MarksAreListed, EncoderRefusalsAreListed, WriterRefusalsAreListed, ListerRefusalsAreListed, ListerAnswersAsTheReader, AcceptedWithoutFault, ColourMapsAreTaken, ExampleMapsAreRead, VersionSizesPointers, PrecisionIsAsked, FloatingLengths, FloatingIsRefused, PointersPastTheEnd, OtherSizesAreUnusable, WellFormedIsText, NamesAreTold, ExampleNameIsTold, AcceptedRowsDecode, TileGoodWhenValid, DrawableTilesGoodWhenValid, CountIsOfTheMarks, CountIsTheDecoders, PixelsAreWhole, MarkedPixelsAreZero, PixelsAreStreams, PixelsAreTheirTiles, EachPixelHasOneTile, TilesAreShown, WrittenReadsBack, GivenRowsAreTaken, TakenRowsAreExcepted, EncodedStreamBounded, StreamReadsBack, TileReadsBack, EncodedTileFits, DamageIsIsolated, ExampleIsDamaged, GoodTileIsKept, GoodTilesAreKept, ExampleTileIsKept, StructureBytesDecide, ConsumedBytesDecide, ConsumedBytesDecideTheCall, ExamplesHold, ExampleFileIsRead, ExampleFileIsWritten, ExampleFileIsListed, ExampleOfVersion11IsRead}
 
 -- ## Any bytes
 
@@ -103,6 +103,9 @@ precision-is-asked = precision-rule
 
 pub floating-lengths : FloatingLengths
 floating-lengths = lengths-floating
+
+pub floating-is-refused : FloatingIsRefused
+floating-is-refused = floating-rule
 
 pub pointers-past-the-end : PointersPastTheEnd
 pointers-past-the-end = (past-end, tile-past-end)

@@ -11,6 +11,7 @@ use Rattle.xcf_numbers.specs.Mark
 use Rattle.xcf_numbers.specs.PropertyType
 use Rattle.xcf_numbers.specs.Refusal
 use Rattle.xcf_numbers.specs.Listed.{listed}
+use Rattle.xcf_numbers.specs.Version
 use Rattle.xcf_utf8.specs.Utf8.{wellFormed}
 use Rattle.xcf_utf8.specs.Grammar.{Text}
 use Rattle.xcf_stream.specs.Stream.{streamAt}
@@ -22,20 +23,21 @@ use Rattle.xcf_tile_laws.specs.Valid.{GoodWhenValid}
 use Rattle.xcf_segment.specs.Segment.{segments, encodeStream}
 use Rattle.xcf_encode.specs.Tile.{planes, operationsOf, encodeTile}
 use Rattle.xcf_encode.specs.Answer.{encoderNumbers, tileRefusal, encodeAnswer}
-use Rattle.xcf_property.specs.Property.{imageList, lengthOk}
+use Rattle.xcf_property.specs.declared.Properties.{Properties}
+use Rattle.xcf_property.specs.Property.{imageList, layerList, lengthOk}
 use Rattle.xcf_walk.specs.Walk.{Walk, got, refused, run, PassedOver}
-use Rattle.xcf_walk.specs.Property.{content}
+use Rattle.xcf_walk.specs.Property.{content, propertyTurn}
 use Rattle.xcf_walk_laws.specs.Map.{MapRule}
 use Rattle.xcf_table.specs.Name.{Told}
 use Rattle.xcf_table.specs.Table.{rowAt}
-use Rattle.xcf_parse.specs.Image.{pointerSize, precision}
+use Rattle.xcf_parse.specs.Image.{pointerSize}
 use Rattle.xcf_read.specs.Image.{Image, image, structureByte}
 use Rattle.xcf_read.specs.Answer.{refusal, refusals, verdictNumbers, readerNumbers, readingOf, reading, rowOf}
 use Rattle.xcf_grid.specs.Grid.{tileWidth, tileHeight, tileCount}
 use Rattle.xcf_grid.specs.Pixels.{HasPixel, tileAt, byteOf, byteIn, pixelsOf, shown}
 use Rattle.xcf_window.specs.Window.{window}
 use Rattle.xcf_window.specs.Usable.{fits}
-use Rattle.xcf_read_laws.specs.Widths.{Sized, PrecisionRule, FloatingLength, PastEnd, TilePastEnd}
+use Rattle.xcf_read_laws.specs.Widths.{Sized, upToBase, PrecisionRule, FloatingLength, FloatingRule, FloatingAt, PastEnd, TilePastEnd}
 use Rattle.xcf_decode.specs.Answer.{decoderNumbers, nonzero, rowDecoding, decoding, counting}
 use Rattle.xcf_decode_laws.specs.Given.{Fit, decodingGiven}
 use Rattle.xcf_isolation.specs.Kept.{GoodTileKept, GoodTilesKept}
@@ -142,13 +144,14 @@ ExampleMapsAreRead =
     × (reading (mapFile 6) table .answer ≡ refusal Refusal.badLength 30)
 
 -- The reading says how many bytes a pointer has: 8 in version 11, 4 in versions 0 to 3, the only others that are read; a refusal says
--- 0. In full in `xcf_read_laws/specs/Widths.antt`, as are the next three.
+-- 0. In full in `xcf_read_laws/specs/Widths.antt`, as are the next four.
 abbrev pub VersionSizesPointers : Type 0
 VersionSizesPointers = (file lent : List ℕ) → Sized (reading file lent)
 
--- In version 11 a precision word follows the base type: 1 where it is missing, else 25 unless it is 150. No other version has one.
+-- In version 11, once the first bytes, the sides and the base type are taken, the precision word at 26 is asked for before anything
+-- behind it: 1 where it is missing, else 25 unless it is 150. Such a file is in `ExampleOfVersion11IsRead`.
 abbrev pub PrecisionIsAsked : Type 0
-PrecisionIsAsked = (file : List ℕ) (version at : ℕ) → PrecisionRule file version at (run (precision version) file at)
+PrecisionIsAsked = (file : List ℕ) (q : ℕ) → got Version.wide q ≡ run upToBase file 0 → PrecisionRule file q
 
 -- A property of type 5 may have 4 bytes, in version 11 also 8, and no other length.
 abbrev pub FloatingLengths : Type 0
@@ -157,8 +160,15 @@ FloatingLengths =
     → (lengthOk (pointerSize version) PropertyType.floating n ≡ true → FloatingLength version n)
     × (FloatingLength version n → lengthOk (pointerSize version) PropertyType.floating n ≡ true)
 
--- Where a pointer, of whichever size, leads to no structure's first word, the refusal is 1 at its whole value; where a tile's is not below
--- the file's length, it is 13 at the pointer's own place.
+-- And in a layer's list a type 5 of a right length whose payload is there is refused with 16; before that come its faults, 6 for its
+-- length and 1 for its payload.
+abbrev pub FloatingIsRefused : Type 0
+FloatingIsRefused =
+    (file : List ℕ) (version n at : ℕ) (p : Properties) → FloatingAt file n at
+    → FloatingRule file version n at (run (propertyTurn (pointerSize version) layerList p) file at)
+
+-- Where the pointer of a layer, a mask, a channel, a hierarchy or a first level, of whichever size, leads to no word of the file, the
+-- refusal is 1 at its whole value; where a tile's is not below the file's length, it is 13 at the pointer's own place.
 abbrev pub PointersPastTheEnd : Type 0
 PointersPastTheEnd = ((file : List ℕ) (p : ℕ) → length file < p + 4 → PastEnd file p) × TilePastEnd
 
