@@ -1,4 +1,4 @@
--- The example file in version 11 is read with pointers of 8 bytes, and its pixel decoded: its walks (`walks`) and its tile are computed.
+-- A floating selection is refused (`example-floating`). The example file in version 11 is read with pointers of 8 bytes, and its pixel decoded: its walks (`walks`) and its tile are computed.
 -- Assumes nothing.
 use Prim.Native.Nat.{ℕ}
 use mathlib.Core.Path.{_≡_, refl, _∙_}
@@ -26,7 +26,7 @@ use Rattle.xcf_grid.specs.Pixels.{tabulate, pixelsOf}
 use Rattle.xcf_decode.specs.Answer.{drawableRefusal, marksOf, nonzero, rowDecoding, decoding}
 use Rattle.xcf_decode_laws.proofs.RowDecoded.{row-decoded}
 use Rattle.xcf_theorems.specs.Version11Example.{version11File}
-use Rattle.xcf_theorems.specs.Statements.{ExampleOfVersion11IsRead}
+use Rattle.xcf_theorems.specs.Statements.{ExampleFloatingIsRefused, ExampleOfVersion11IsRead}
 use Rattle.xcf_theorems.proofs.ExampleWalks.{version11, walks}
 
 abbrev file : List ℕ
@@ -45,11 +45,16 @@ module _ (pixels marks : List ℕ) (one : length pixels ≡ 1) (few : length mar
   unfolding decoding drawableRefusal rowRefusal decodableRow pointerSizeOk inRange inFile fits tableOf rowAt run bytes here must fileLength bigEndian number tiles
   told-narrow = rw (one, few)
 
+pub example-floating : ExampleFloatingIsRefused
+unfolding bigEndian
+example-floating p = (record { inside = omega arith; kind = refl; said = refl }, walks .floating p, walks .unfit p)
+
 pub example-11 : ExampleOfVersion11IsRead
 unfolding tableOf reading rowAt fits
 example-11 table pixels marks size one few =
     let read : reading file table ≡ given = read-walked file table size (omega arith) (walks .version11) in (
       read,
+      walks .upTo,
       rw (eq-eqb (length table) tableSize size, walks .otherPrecision),
       rw (eq-eqb (length table) tableSize size, walks .lastPlace),
       rw (eq-eqb (length table) tableSize size, walks .highTile),

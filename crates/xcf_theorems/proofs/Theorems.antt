@@ -42,13 +42,13 @@ use Rattle.xcf_round_trip.proofs.RoundTrip.{round-trip}
 use Rattle.xcf_round_trip.proofs.GivenTaken.{given-is-taken}
 use Rattle.xcf_round_trip.proofs.TakenExcepted.{taken-is-excepted}
 use Rattle.xcf_theorems.proofs.ExampleMaps.{example-maps}
-use Rattle.xcf_theorems.proofs.ExampleVersion11.{example-11}
+use Rattle.xcf_theorems.proofs.ExampleVersion11.{example-floating, example-11}
 use Rattle.xcf_theorems.proofs.ExampleRead.{example-read, latin-read}
 use Rattle.xcf_theorems.proofs.ExampleWritten.{example-written, latin-refused}
 use Rattle.xcf_theorems.proofs.ExampleListed.{example-listed}
 use Rattle.xcf_theorems.proofs.ExampleDamaged.{example-damaged}
 use Rattle.xcf_theorems.proofs.ExampleKept.{example-kept}
-use Rattle.xcf_theorems.specs.Statements.{ReaderRefusalsAreListed, RefusalsAreListed, PassedBytesDecide, DecoderRefusalsAreListed, CounterRefusalsAreListed, TileRefusalsAreListed, MarksAreListed, EncoderRefusalsAreListed, WriterRefusalsAreListed, ListerRefusalsAreListed, ListerAnswersAsTheReader, AcceptedWithoutFault, ColourMapsAreTaken, ExampleMapsAreRead, VersionSizesPointers, PrecisionIsAsked, FloatingLengths, FloatingIsRefused, PointersPastTheEnd, OtherSizesAreUnusable, WellFormedIsText, NamesAreTold, ExampleNameIsTold, AcceptedRowsDecode, TileGoodWhenValid, DrawableTilesGoodWhenValid, CountIsOfTheMarks, CountIsTheDecoders, PixelsAreWhole, MarkedPixelsAreZero, PixelsAreStreams, PixelsAreTheirTiles, EachPixelHasOneTile, TilesAreShown, WrittenReadsBack, GivenRowsAreTaken, TakenRowsAreExcepted, EncodedStreamBounded, StreamReadsBack, TileReadsBack, EncodedTileFits, DamageIsIsolated, ExampleIsDamaged, GoodTileIsKept, GoodTilesAreKept, ExampleTileIsKept, StructureBytesDecide, ConsumedBytesDecide, ConsumedBytesDecideTheCall, ExamplesHold, ExampleFileIsRead, ExampleFileIsWritten, ExampleFileIsListed, ExampleOfVersion11IsRead}
+use Rattle.xcf_theorems.specs.Statements.{ReaderRefusalsAreListed, RefusalsAreListed, PassedBytesDecide, DecoderRefusalsAreListed, CounterRefusalsAreListed, TileRefusalsAreListed, MarksAreListed, EncoderRefusalsAreListed, WriterRefusalsAreListed, ListerRefusalsAreListed, ListerAnswersAsTheReader, AcceptedWithoutFault, ColourMapsAreTaken, ExampleMapsAreRead, VersionSizesPointers, PrecisionIsAsked, FloatingLengths, FloatingIsRefused, ExampleFloatingIsRefused, PointersPastTheEnd, OtherSizesAreUnusable, WellFormedIsText, NamesAreTold, ExampleNameIsTold, AcceptedRowsDecode, TileGoodWhenValid, DrawableTilesGoodWhenValid, CountIsOfTheMarks, CountIsTheDecoders, PixelsAreWhole, MarkedPixelsAreZero, PixelsAreStreams, PixelsAreTheirTiles, EachPixelHasOneTile, TilesAreShown, WrittenReadsBack, GivenRowsAreTaken, TakenRowsAreExcepted, EncodedStreamBounded, StreamReadsBack, TileReadsBack, EncodedTileFits, DamageIsIsolated, ExampleIsDamaged, GoodTileIsKept, GoodTilesAreKept, ExampleTileIsKept, StructureBytesDecide, ConsumedBytesDecide, ConsumedBytesDecideTheCall, ExamplesHold, ExampleFileIsRead, ExampleFileIsWritten, ExampleFileIsListed, ExampleOfVersion11IsRead}
 
 -- ## Any bytes
 
@@ -106,6 +106,9 @@ floating-lengths = lengths-floating
 
 pub floating-is-refused : FloatingIsRefused
 floating-is-refused = floating-rule
+
+pub example-floating-is-refused : ExampleFloatingIsRefused
+example-floating-is-refused = example-floating
 
 pub pointers-past-the-end : PointersPastTheEnd
 pointers-past-the-end = (past-end, tile-past-end)

@@ -52,7 +52,7 @@ use Rattle.xcf_theorems.specs.ExampleFile.{exampleNamed, exampleFile, ex
 use Rattle.xcf_theorems.specs.Examples.{table, All}
 use Rattle.xcf_theorems.specs.KeptExample.{KeptExample}
 use Rattle.xcf_theorems.specs.MapExample.{mapFile}
-use Rattle.xcf_theorems.specs.Version11Example.{version11File, version11Row}
+use Rattle.xcf_theorems.specs.Version11Example.{version11File, version11Row, floatingProperty}
 
 -- ## Any bytes
 -- Whatever it is lent, each exported call answers a number of its list (RULES, "Any bytes"). That it ends, touches nothing else and has
@@ -149,7 +149,7 @@ abbrev pub VersionSizesPointers : Type 0
 VersionSizesPointers = (file lent : List ℕ) → Sized (reading file lent)
 
 -- In version 11, once the first bytes, the sides and the base type are taken, the precision word at 26 is asked for before anything
--- behind it: 1 where it is missing, else 25 unless it is 150. Such a file is in `ExampleOfVersion11IsRead`.
+-- behind it: 1 where it is missing, else 25 unless it is 150. A file of which these are taken is in `ExampleOfVersion11IsRead`.
 abbrev pub PrecisionIsAsked : Type 0
 PrecisionIsAsked = (file : List ℕ) (q : ℕ) → got Version.wide q ≡ run upToBase file 0 → PrecisionRule file q
 
@@ -166,6 +166,14 @@ abbrev pub FloatingIsRefused : Type 0
 FloatingIsRefused =
     (file : List ℕ) (version n at : ℕ) (p : Properties) → FloatingAt file n at
     → FloatingRule file version n at (run (propertyTurn (pointerSize version) layerList p) file at)
+
+-- Such is one of 8 bytes: in a layer's list of version 11 it is a 16, in one of another version a 6.
+abbrev pub ExampleFloatingIsRefused : Type 0
+ExampleFloatingIsRefused =
+    (p : Properties)
+    → FloatingAt floatingProperty 8 0
+    × (run (propertyTurn (pointerSize 11) layerList p) floatingProperty 0 ≡ refused Refusal.floating 0)
+    × (run (propertyTurn (pointerSize 3) layerList p) floatingProperty 0 ≡ refused Refusal.badLength 4)
 
 -- Where the pointer of a layer, a mask, a channel, a hierarchy or a first level, of whichever size, leads to no word of the file, the
 -- refusal is 1 at its whole value; where a tile's is not below the file's length, it is 13 at the pointer's own place.
@@ -421,7 +429,8 @@ ExampleFileIsListed =
       text = exampleListing ++ drop 101 text;
     }
 
--- The example file in version 11, with pointers of 8 bytes, is accepted and says so; another precision is refused, and so is a pointer
+-- The example file in version 11, with pointers of 8 bytes, is accepted and says so; another precision, behind a base type that is
+-- taken, is refused, and so is a pointer
 -- to the last of all places, at its whole value, and a tile pointer whose low word alone would be right. Its pixel is decoded with
 -- pointers of 8 bytes; the decoder that is told 4 finds a 0 for a tile pointer.
 abbrev pub ExampleOfVersion11IsRead : Type 0
@@ -434,6 +443,7 @@ ExampleOfVersion11IsRead =
       answer = record { number = 0; place = 0; width = 1; height = 1; base = 1; version = 11; compression = 1; rows = 1; size = 8 };
       table = version11Row ++ replicate (tableSize - rowSize) 0;
     })
+    × (got Version.wide 26 ≡ run upToBase (version11File 100 0 71 0) 0)
     × (reading (version11File 100 0 71 0) table .answer ≡ refusal Refusal.badPrecision 26)
     × (reading (version11File 150 255 255 0) table .answer ≡ refusal Refusal.pastEnd 18446744073709551615)
     × (reading (version11File 150 0 71 1) table .answer ≡ refusal Refusal.badTilePointer 161)

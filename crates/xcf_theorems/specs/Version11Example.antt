@@ -1,4 +1,4 @@
--- The example file in version 11 (RULES, "Examples"): 179 bytes, with a precision word and pointers of 8 bytes.
+-- The example file in version 11 (RULES, "Examples"): 179 bytes, with a precision word and pointers of 8 bytes; and a property.
 use Prim.Native.Nat.{ℕ}
 use mathlib.Core.List.{List, [], _∷_}
 
@@ -25,3 +25,7 @@ version11File precision high low tileHigh =
 
 abbrev pub version11Row : List ℕ
 version11Row = 3 ∷ 1 ∷ 1 ∷ 1 ∷ 2 ∷ 83 ∷ 1 ∷ 85 ∷ 161 ∷ 1 ∷ 255 ∷ 1 ∷ 0 ∷ 0 ∷ 0 ∷ 0 ∷ []
+
+-- a property of type 5 and 8 bytes, a pointer to 71
+abbrev pub floatingProperty : List ℕ
+floatingProperty = 0 ∷ 0 ∷ 0 ∷ 5 ∷ 0 ∷ 0 ∷ 0 ∷ 8 ∷ 0 ∷ 0 ∷ 0 ∷ 0 ∷ 0 ∷ 0 ∷ 0 ∷ 71 ∷ []
