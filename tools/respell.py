@@ -87,15 +87,8 @@ def respelled_lemmas(text, scoped):
 
 
 def respelled_rust(text, new):
-    """Imports, clauses and comments only: a clause is a line that names requires, ensures or ghost."""
-    lines = []
-    for line in text.split("\n"):
-        if re.match(r"\s*(ghost|requires|ensures)\b", line):
-            line = respelled(line, new)
-        elif line.lstrip().startswith("//"):
-            line = respelled_prose(line, new)
-        lines.append(line)
-    return "\n".join(lines)
+    """Imports and clauses, and names between backticks in comments. The code itself has no name of these shapes."""
+    return "\n".join(respelled_prose(l, new) if l.lstrip().startswith("//") else respelled(l, new) for l in text.split("\n"))
 
 
 def respelled_prose(text, new):

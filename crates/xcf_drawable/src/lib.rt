@@ -1,4 +1,5 @@
 // A drawable: measured and stored.
+#![tactic(auto)]
 mod tile;
 
 ghost use Rattle.std.specs.Prelude.{◌≡◌, cond, ◌+◌, ◌*◌, ◌≤◌, length};

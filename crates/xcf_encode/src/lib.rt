@@ -1,4 +1,5 @@
 // One stream, and one tile, encoded.
+#![tactic(auto)]
 mod streams;
 mod tile;
 

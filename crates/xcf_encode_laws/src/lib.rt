@@ -1,1 +1,2 @@
 // What was encoded is read back, and the numbers of a call: proofs only.
+#![tactic(auto)]

@@ -1,4 +1,5 @@
 // The tiles of a drawable.
+#![tactic(auto)]
 pub mod frame;
 pub mod put;
 pub mod take;

@@ -15,7 +15,7 @@ fn put_lines(tile: &[u8], line: usize, n: u32, pixels: &mut [u8], at: usize, str
     let mut rest = n;
     while 0 < rest {
         let end = from + line;
-        bytes::copy(&tile[from..end], &mut pixels[to..]);
+        pixels[to..to + line].copy_from_slice(&tile[from..end]);
         from = end;
         to += stride;
         rest -= 1;

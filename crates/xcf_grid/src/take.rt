@@ -22,7 +22,7 @@ fn take_lines(pixels: &[u8], start: usize, stride: usize, line: usize, n: u32, t
     let mut rest = n;
     while 0 < rest {
         let end = from + line;
-        bytes::copy(&pixels[from..end], &mut tile[to..]);
+        tile[to..to + line].copy_from_slice(&pixels[from..end]);
         from += stride;
         to += line;
         rest -= 1;

@@ -1,4 +1,5 @@
 // Lists the XCF file on standard input.
+#![tactic(auto)]
 use libc::STDIN_FILENO;
 use xcf_listing::print::print_listing;
 use xcf_listing::{INPUT_SIZE, TEXT_SIZE};

@@ -1,4 +1,5 @@
 // Lists the XCF files that its arguments name, each behind a line with its name.
+#![tactic(auto)]
 use libc::STDOUT_FILENO;
 use xcf_listing::print::print_listing;
 use xcf_listing::{INPUT_SIZE, TEXT_SIZE};

@@ -1,4 +1,5 @@
 // The listing of an XCF file as text.
+#![tactic(auto)]
 pub mod print;
 mod rows;
 

@@ -27,7 +27,7 @@ pub(crate) fn put_rows(
 ) -> RowsPut
     requires { (at + line_size * rows ≤ length text.old) × (row_size * rows ≤ length table.now) }
     ensures put_within { PutWithin text.old at (row_lines size file.now table.now compression 0 rows)
-        (lineSize * rows) result.end text.new }
+        (line_size * rows) result.end text.new }
     ensures marked_value { result.marked ≡ marked_tiles size file.now table.now compression 0 rows }
 {
     let mut end = at;

@@ -1,4 +1,6 @@
 // The numbers of the format and of this library, each by one name.
+#![tactic(auto)]
+
 pub mod base;
 pub mod flag;
 pub mod kind;

@@ -1,4 +1,5 @@
 // The reader: a file's structures, checked rule by rule, as rows of a lent table.
+#![tactic(auto)]
 mod drawable;
 mod image;
 

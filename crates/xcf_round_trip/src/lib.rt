@@ -1,1 +1,2 @@
 // What the writer writes reads back: statements and proofs only.
+#![tactic(auto)]

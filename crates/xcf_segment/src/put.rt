@@ -50,8 +50,8 @@ fn put_copy(output: &mut [u8], to: usize, stream: &[u8], at: usize, count: usize
 {
     let body = put_copy_head(output, to, count);
     let end = at + count;
-    let n = bytes::copy(&stream[at..end], &mut output[body..]);
-    body + n
+    output[body..body + count].copy_from_slice(&stream[at..end]);
+    body + count
 }
 
 // The operation of the segment at `at`.

@@ -5,7 +5,6 @@ use mathlib.Core.List.{List, [], flat_map}
 use mathlib.Core.Bool.{Bool, true, false, cond}
 use Prim.Native.Nat.{ℕ, ◌+◌, ◌*◌, ◌/◌, ◌%◌}
 use native.Mathlib.Numerals.{add-one, add-two, add-three}
-use native.Mathlib.Omega.{arith}
 use lib.ListN.{length, set}
 use Rattle.xcf_laws.proofs.FlatMaps.{flat_map-length}
 use Rattle.xcf_store.specs.Put.{Put}

@@ -42,6 +42,7 @@ pub fn put_bytes(output: &mut [u8], to: usize, content: &[u8]) -> usize
     requires { to + length content.now ≤ length output.old }
     ensures { Put output.old to content.now result output.new }
 {
-    bytes::copy(content, &mut output[to..]);
-    to + content.len()
+    let end = to + content.len();
+    output[to..end].copy_from_slice(content);
+    end
 }

@@ -1,4 +1,5 @@
 // The row table: 128 rows of 16 numbers in a lent slice.
+#![tactic(auto)]
 pub mod canvas;
 
 ghost use Rattle.std.specs.Prelude.{◌≡◌, ◌+◌, ◌≤◌, length};

@@ -1,4 +1,5 @@
 // Words and numbers put into a text.
+#![tactic(auto)]
 ghost use Rattle.std.specs.Prelude.{◌≡◌, ◌+◌, ◌*◌, ◌≤◌, length};
 ghost use mathlib.Core.List.{◌++◌, flat_map};
 ghost use Rattle.xcf_store.specs.Put.{PutWithin};

@@ -1,1 +1,2 @@
 // The page of theorems: statements and proofs only.
+#![tactic(auto)]

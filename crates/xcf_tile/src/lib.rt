@@ -1,4 +1,5 @@
 // One tile of an XCF drawable, decoded from its window.
+#![tactic(auto)]
 ghost use Rattle.std.specs.Prelude.{◌≡◌, length, take};
 ghost use Rattle.xcf_numbers.specs.Limit.{window_limit};
 ghost use Rattle.xcf_tile.specs.Tile.{plain_tile, encoded_tile, tile_in};
@@ -42,7 +43,7 @@ fn decode_plain(window: &[u8], n: usize, depth: usize, pixels: &mut [u8]) -> Str
         clear(pixels);
         return ended(mark::SHORT, 0, 0);
     }
-    bytes::copy(&window[..size], pixels);
+    pixels[..size].copy_from_slice(&window[..size]);
     ended(mark::GOOD, size, 0)
 }
 

@@ -1,4 +1,5 @@
 // The rows that the writer takes.
+#![tactic(auto)]
 mod kind;
 pub mod row;
 mod seen;

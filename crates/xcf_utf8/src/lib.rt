@@ -1,4 +1,5 @@
 // Well-formed UTF-8.
+#![tactic(auto)]
 ghost use Rattle.std.specs.Prelude.{◌≡◌, ◌≤◌, length};
 ghost use Rattle.xcf_utf8.specs.Utf8.{well_formed};
 ghost use Rattle.xcf_utf8.specs.Parts.{Moves, Passes, whole, tails_of, low_of, high_of};

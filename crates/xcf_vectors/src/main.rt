@@ -1,4 +1,5 @@
 // Runs the tile decoder and encoder on the records of standard input, and prints a line for each.
+#![tactic(auto)]
 mod record;
 
 use libc::{STDIN_FILENO, STDOUT_FILENO};

@@ -1,4 +1,5 @@
 // An XCF file, written from rows, names and pixels.
+#![tactic(auto)]
 mod check;
 mod file;
 
