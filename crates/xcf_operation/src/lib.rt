@@ -1,5 +1,6 @@
 // One operation of an encoded stream.
 #![tactic(auto)]
+
 ghost use Rattle.std.specs.Prelude.{◌≡◌, ◌≤◌, ◌<◌, length};
 ghost use Rattle.xcf_operation.specs.Operation.{head_at};
 ghost use Rattle.xcf_operation.specs.Parts.{head_read, HeadInside, data_size, found, found_at};
