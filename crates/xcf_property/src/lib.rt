@@ -1,5 +1,6 @@
 // Properties: what each type's payload may be, and what a list says.
 #![tactic(auto)]
+
 ghost use Rattle.std.specs.Prelude.{◌≡◌, ◌+◌, ◌≤◌, cond, length, eqb};
 ghost use Rattle.xcf_store.specs.Word.{part, word_of};
 ghost use Rattle.xcf_property.specs.Property.{length_ok, content_of, is_colour_map, map_length_ok, is_floating, lacks_map, allowed, defaults, active_type, put, no_properties, image_list, layer_list};
