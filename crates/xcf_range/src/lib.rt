@@ -1,5 +1,6 @@
 // A number within its bounds.
 #![tactic(auto)]
+
 ghost use Rattle.std.specs.Prelude.{◌≡◌, not};
 ghost use Rattle.xcf_range.specs.Range.{within};
 

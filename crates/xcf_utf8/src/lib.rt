@@ -1,5 +1,6 @@
 // Well-formed UTF-8.
 #![tactic(auto)]
+
 ghost use Rattle.std.specs.Prelude.{◌≡◌, ◌≤◌, length};
 ghost use Rattle.xcf_utf8.specs.Utf8.{well_formed};
 ghost use Rattle.xcf_utf8.specs.Parts.{Moves, Passes, whole, tails_of, low_of, high_of};
@@ -11,7 +12,7 @@ const HIGHEST_TAIL: u8 = 0xBF;
 
 // The rest of a character: so many bytes, the first of them from low to high, the others any tail. Where low is above high, no byte
 // goes on.
-#[derive(Drop)]
+#[derive(Clone, Copy)]
 struct Rest {
     tails: u8,
     low: u8,
