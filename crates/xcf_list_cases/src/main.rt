@@ -1,6 +1,7 @@
 // Lists the XCF files that its arguments name, each behind a line with its name.
 #![tactic(auto)]
-use libc::STDOUT_FILENO;
+use std::io::Read;
+use std::{env, fs, io};
 use xcf_listing::print::print_listing;
 use xcf_listing::{INPUT_SIZE, TEXT_SIZE};
 use xcf_numbers::limit::TABLE_SIZE;
@@ -8,35 +9,24 @@ use xcf_numbers::limit::TABLE_SIZE;
 // The most cases that are listed.
 const CASES: usize = 64;
 
-fn print_case(name: &[u8], input: &mut [u8], table: &mut [u32], text: &mut [u8]) {
-    io::write_all(STDOUT_FILENO, name);
-    io::write_all(STDOUT_FILENO, b"\n");
-    let fd = os::open_read(name);
-    if fd < 0 {
-        io::write_all(STDOUT_FILENO, b"not opened\n");
-        return;
-    }
-    let n = io::read_full(fd, input);
-    libc::close(fd);
-    print_listing(&input[..n], table, text);
-}
-
-fn print_cases(name: &mut [u8], input: &mut [u8], table: &mut [u32], text: &mut [u8]) {
-    let mut i = 1;
-    while i <= CASES {
-        let n = os::arg(i, name);
-        if n == 0 {
-            return;
+fn print_case(rt: &HostRuntime, name: &str, table: &mut [u32], text: &mut [u8]) -> io::Result<()> {
+    println!(rt; "{name}")?;
+    let file = match fs::open(rt, name) {
+        Ok(file) => file,
+        Err(_) => {
+            return println!(rt; "not opened");
         }
-        print_case(&name[..n], input, table, text);
-        i += 1;
-    }
+    };
+    let mut input = Vec::new(rt.alloc());
+    file.take(INPUT_SIZE as u64).read_to_end(&mut input)?;
+    print_listing(rt, &input, table, text)
 }
 
-fn main() {
-    let mut name = [0u8; 256];
-    let mut input = [0u8; INPUT_SIZE];
+fn main(rt: HostRuntime) -> io::Result<()> {
     let mut table = [0u32; TABLE_SIZE];
     let mut text = [0u8; TEXT_SIZE];
-    print_cases(&mut name, &mut input, &mut table, &mut text);
+    for name in env::args(&rt)?.skip(1).take(CASES) {
+        print_case(&rt, name.as_str(), &mut table, &mut text)?;
+    }
+    Ok(())
 }

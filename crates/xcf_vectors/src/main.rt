@@ -2,31 +2,25 @@
 #![tactic(auto)]
 mod record;
 
-use libc::{STDIN_FILENO, STDOUT_FILENO};
 use record::{Record, RecordRead};
+use std::io;
+use std::io::Read;
 use xcf_encode::EncodeAnswer;
 
-// A number behind a space.
-fn print_next(n: u64) {
-    io::write_all(STDOUT_FILENO, b" ");
-    io::print_decimal(STDOUT_FILENO, n);
-}
+// The most bytes of input that are read.
+const INPUT_SIZE: usize = 131072;
 
-fn fill(lent: &mut [u8]) {
-    let mut i = 0;
-    while i < lent.len() {
-        lent[i] = 0xaa;
-        i += 1;
-    }
-}
+// Room for every buffer that a record lends.
+const BUFFER_SIZE: usize = 20480;
+
+// The most records that are run.
+const RECORDS: u32 = 4096;
 
 // s = (s * 31 + b) % 65521 over the bytes.
 fn sum(lent: &[u8]) -> u64 {
     let mut s: u64 = 0;
-    let mut i = 0;
-    while i < lent.len() {
-        s = step(s, lent[i]);
-        i += 1;
+    for b in lent {
+        s = step(s, *b);
     }
     s
 }
@@ -35,85 +29,71 @@ fn step(s: u64, b: u8) -> u64 {
     (s % 65521 * 31 + (b as u64)) % 65521
 }
 
-fn decode(r: Record, window: &[u8], lent: &mut [u8]) {
+fn decode(rt: &HostRuntime, r: Record, window: &[u8], lent: &mut [u8]) -> io::Result<()> {
     let a = xcf_tile::decode_tile(window, r.width, r.height, r.depth, r.compression, lent);
-    io::write_all(STDOUT_FILENO, b"tile");
-    print_next(a.number);
-    print_next(a.place);
-    print_next(a.mark);
-    print_next(a.consumed);
-    print_next(a.operations);
-    print_next(sum(lent));
-    io::write_all(STDOUT_FILENO, b"\n");
+    println!(rt; "tile {} {} {} {} {} {}", a.number, a.place, a.mark, a.consumed, a.operations, sum(lent))
 }
 
-fn print_encoded(name: &[u8], a: EncodeAnswer, lent: &[u8]) {
-    io::write_all(STDOUT_FILENO, name);
-    print_next(a.number);
-    print_next(a.place);
-    print_next(a.length);
-    print_next(sum(lent));
-    io::write_all(STDOUT_FILENO, b"\n");
+fn print_encoded(rt: &HostRuntime, name: &str, a: EncodeAnswer, lent: &[u8]) -> io::Result<()> {
+    println!(rt; "{name} {} {} {} {}", a.number, a.place, a.length, sum(lent))
 }
 
-fn encode(r: Record, pixels: &[u8], lent: &mut [u8]) {
+fn encode(rt: &HostRuntime, r: Record, pixels: &[u8], lent: &mut [u8]) -> io::Result<()> {
     let a = xcf_encode::encode_tile(pixels, r.width, r.height, r.depth, lent);
-    print_encoded(b"write", a, lent);
+    print_encoded(rt, "write", a, lent)
 }
 
-fn encode_stream(stream: &[u8], lent: &mut [u8]) {
+fn encode_stream(rt: &HostRuntime, stream: &[u8], lent: &mut [u8]) -> io::Result<()> {
     let a = xcf_encode::encode_stream(stream, lent);
-    print_encoded(b"stream", a, lent);
+    print_encoded(rt, "stream", a, lent)
 }
 
 // One call on a buffer of 0xAA bytes.
-fn run(r: Record, source: &[u8], lent: &mut [u8]) {
-    fill(lent);
-    let kind = r.kind;
-    match kind {
-        0 => decode(r, source, lent),
-        1 => encode(r, source, lent),
-        _ => encode_stream(source, lent),
+fn run(rt: &HostRuntime, r: Record, source: &[u8], lent: &mut [u8]) -> io::Result<()> {
+    lent.fill(0xaa);
+    match r.kind {
+        0 => decode(rt, r, source, lent),
+        1 => encode(rt, r, source, lent),
+        _ => encode_stream(rt, source, lent),
     }
 }
 
 // The record's source and buffer, where there is room for both.
-fn run_record(r: Record, input: &[u8], buffer: &mut [u8]) {
+fn run_record(rt: &HostRuntime, r: Record, input: &[u8], buffer: &mut [u8]) -> io::Result<()> {
     let from = r.from;
     let end = r.end;
     let lent = r.lent;
     if end < from {
-        return;
+        return Ok(());
     }
     if input.len() < end {
-        return;
+        return Ok(());
     }
     if buffer.len() < lent {
-        return;
+        return Ok(());
     }
-    run(r, &input[from..end], &mut buffer[..lent]);
+    run(rt, r, &input[from..end], &mut buffer[..lent])
 }
 
-fn run_all(input: &[u8], buffer: &mut [u8]) {
+fn run_all(rt: &HostRuntime, input: &[u8], buffer: &mut [u8]) -> io::Result<()> {
     let mut at = 0;
-    let mut count: u32 = 0;
-    while count < 4096 {
-        count += 1;
+    for _ in 0..RECORDS {
         match record::read(input, at) {
             RecordRead::Next(r) => {
-                run_record(r, input, buffer);
                 at = r.end;
+                run_record(rt, r, input, buffer)?;
             }
             RecordRead::End => {
-                return;
+                return Ok(());
             }
         }
     }
+    Ok(())
 }
 
-fn main() {
-    let mut input = [0u8; 131072];
-    let n = io::read_full(STDIN_FILENO, &mut input);
-    let mut buffer = [0u8; 20480];
-    run_all(&input[..n], &mut buffer);
+fn main(rt: HostRuntime) -> io::Result<()> {
+    let mut input = Vec::new(rt.alloc());
+    rt.reader().take(INPUT_SIZE as u64).read_to_end(&mut input)?;
+    let mut buffer = [0u8; BUFFER_SIZE];
+    run_all(&rt, &input, &mut buffer)
 }
