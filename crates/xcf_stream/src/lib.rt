@@ -1,5 +1,6 @@
 // The streams of an encoded tile, decoded into its pixels.
 #![tactic(auto)]
+
 pub mod scatter;
 
 ghost use Rattle.std.specs.Prelude.{◌≡◌};
