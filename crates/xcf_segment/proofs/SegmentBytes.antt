@@ -1,19 +1,21 @@
 -- How long an operation is, its bytes where its count is short and where it is long, and that a head with the bytes copied
 -- behind it is a copy: the definitions, by the test of the count.
 -- Assumes nothing.
-use mathlib.Core.Path.{◌≡◌, refl, ap, ◌∙◌}
-use mathlib.Core.List.{List, [], ◌∷◌, ◌++◌}
+use mathlib.Core.Path.{◌≡◌, refl, ap}
+use mathlib.Core.List.{List, [], ◌∷◌, ◌++◌, append_assoc}
 use mathlib.Core.Bool.{Bool, true, false, cond}
 use Prim.Native.Nat.{ℕ, ◌+◌, ◌-◌, ◌/◌, ◌%◌, ◌≤◌, ◌<◌}
 use native.Mathlib.Omega.{arith}
 use borrow.Author.Tests.{le-leb, lt-leb}
 use lib.ListN.{length, take, drop, length-append, length-take, length-drop}
+use lib.Seq.{sets-eq, drop-drop}
 use lib.Dec.{leb}
 use Rattle.xcf_laws.proofs.Cases.{by_cases}
 use Rattle.xcf_segment.specs.Segment.{head_bytes, run_of, copy_of, segment_bytes}
 use Rattle.xcf_segment.specs.Parts.{head_size}
 use Rattle.xcf_store.specs.Put.{Put}
-use Rattle.xcf_store.proofs.Stores.{copied, put_part, put_append, put_length}
+use borrow.Rule.Slice.PartMut.{put_mid}
+use Rattle.xcf_store.proofs.Stores.{put_append, put_length}
 
 by_test : (b : Bool) (short long a z : ℕ) → length (cond b (short ∷ []) (long ∷ a ∷ z ∷ [])) ≡ cond b 1 3
 by_test true short long a z = refl
@@ -50,15 +52,17 @@ copy_bytes : (bytes : List ℕ) → segment_bytes (copy_of bytes) ≡ head_bytes
 unfolding segment_bytes
 copy_bytes bytes = refl
 
+-- n bytes written over the part of n bytes from `to` on
+put_at : (l : List ℕ) (to k n : ℕ) (bs part : List ℕ) → to + n ≤ length l → length bs ≡ n → k ≡ n → part ≡ bs → Put l to bs (to + n) (put_mid to k l part)
+put_at l to k n bs part h m e q = record { behind = omega arith; output = rw (q, e, sets-eq bs l to (omega arith), m, drop-drop, append_assoc) refl }
+
 -- a copy's bytes behind its head: there is room for them, and they are the operation
 module _ {old : List ℕ} {to n body : ℕ} {mid : List ℕ} (p : Put old to (head_bytes n (256 - n) 128) body mid) (bs : List ℕ) (l : length bs ≡ n) (h : to + length (segment_bytes (copy_of bs)) ≤ length old) where
   pub copy_room : body + n ≤ length mid
   copy_room =
       omega (arith, p.behind, head_length n (256 - n) 128, put_length p, copy_length bs, l, ap head_size l)
 
-  pub copy_put : (part : List ℕ) (r : ℕ) → r ≡ length bs → part ≡ take (length bs) bs ++ drop (length bs) (take (length mid - body) (drop body mid)) → Put old to (segment_bytes (copy_of bs)) (body + r) (take body mid ++ (part ++ drop (length mid - body) (drop body mid)))
-  copy_put part r e q =
+  pub copy_put : (k : ℕ) (part : List ℕ) → k ≡ n → part ≡ bs → Put old to (segment_bytes (copy_of bs)) (body + n) (put_mid body k mid part)
+  copy_put k part e q =
       let room : body + n ≤ length mid = copy_room in
-      let long : length (take (length mid - body) (drop body mid)) ≡ length mid - body = rw (length-take, length-drop) (omega arith) in
-      let start : Put (take (length mid - body) (drop body mid)) 0 bs r part = record { behind = omega arith; output = q ∙ copied _ bs (omega arith) } in
-      rw (copy_bytes bs, l) (put_append p (put_part {k = length mid - body} start (omega arith) (omega arith)))
+      rw (copy_bytes bs, l) (put_append p (put_at mid body k n bs part room l e q))

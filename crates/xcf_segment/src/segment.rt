@@ -4,7 +4,7 @@ ghost use Rattle.xcf_segment.specs.Segment.{equal_bytes, copied_bytes};
 ghost use Rattle.xcf_segment.specs.Parts.{SegmentAt};
 
 // A segment of `count` bytes: a run of equal ones, or a copy.
-#[derive(Drop)]
+#[derive(Clone, Copy)]
 pub struct SegmentRead {
     pub run: bool,
     pub count: usize,
