@@ -7,7 +7,7 @@ use Prim.Native.Nat.{ℕ, ◌*◌, ◌≤◌, ◌<◌}
 use native.Mathlib.Nat.{mul_comm}
 use borrow.Author.Tests.{le-leb, lt-leb, eq-eqb, ne_eqb}
 use lib.ListN.{length, take, drop, replicate}
-use lib.Seq.{length-take-le, take-length, drop-length}
+use lib.Seq.{drop-length}
 use Rattle.xcf_numbers.specs.Mark
 use Rattle.xcf_tile.specs.Tile.{plain_tile, encoded_tile}
 use Rattle.xcf_stream.specs.Streams.{streams_at}
@@ -18,8 +18,8 @@ use Rattle.xcf_tile.proofs.Lengths.{streams_whole}
 use Rattle.xcf_tile.proofs.Interleaved.{scatter_all_lem}
 
 -- a copy as long as what it is copied to
-pub copied : (ws d : List ℕ) → length d ≤ length ws → take (length (take (length d) ws)) (take (length d) ws) ++ drop (length (take (length d) ws)) d ≡ take (length d) ws
-copied ws d h = rw (take-length, length-take-le (length d) ws h, drop-length, append-nil)
+pub copied : (ws d : List ℕ) → take (length d) ws ++ drop (length d) d ≡ take (length d) ws
+copied ws d = rw (drop-length, append-nil)
 
 pub plain_short : (ws : List ℕ) (n depth : ℕ) → length ws < n * depth → TileGiven (plain_tile ws n depth) (record { mark = Mark.short; at = 0; operations = 0 }) (replicate (n * depth) 0)
 unfolding plain_tile

@@ -1,5 +1,6 @@
 // One tile of an XCF drawable, decoded from its window.
 #![tactic(auto)]
+
 ghost use Rattle.std.specs.Prelude.{◌≡◌, length, take};
 ghost use Rattle.xcf_numbers.specs.Limit.{window_limit};
 ghost use Rattle.xcf_tile.specs.Tile.{plain_tile, encoded_tile, tile_in};
