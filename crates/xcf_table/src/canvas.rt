@@ -4,7 +4,7 @@ ghost use Rattle.xcf_table.specs.Canvas.{side_ok, type_ok, depth_of};
 
 use xcf_numbers::limit::{SIDE_LIMIT, TYPE_LIMIT};
 
-#[derive(Drop)]
+#[derive(Clone, Copy)]
 pub struct Canvas {
     pub width: u32,
     pub height: u32,

@@ -1,5 +1,6 @@
 // The row table: 128 rows of 16 numbers in a lent slice.
 #![tactic(auto)]
+
 pub mod canvas;
 
 ghost use Rattle.std.specs.Prelude.{◌≡◌, ◌+◌, ◌≤◌, length};
@@ -11,7 +12,7 @@ use xcf_numbers::limit::ROW_SIZE;
 
 // A drawable's row, fields 0 to 15: form is its type, name and namelen are the place and the number of its name's bytes,
 // list and pointers the places of its properties and of its first tile pointer, and count the number of its tiles.
-#[derive(Drop)]
+#[derive(Clone, Copy)]
 pub struct Row {
     pub kind: u32,
     pub width: u32,
