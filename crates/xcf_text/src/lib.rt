@@ -1,5 +1,6 @@
 // Words and numbers put into a text.
 #![tactic(auto)]
+
 ghost use Rattle.std.specs.Prelude.{◌≡◌, ◌+◌, ◌*◌, ◌≤◌, length};
 ghost use mathlib.Core.List.{◌++◌, flat_map};
 ghost use Rattle.xcf_store.specs.Put.{PutWithin};
@@ -15,8 +16,8 @@ pub fn put_decimal(text: &mut [u8], at: usize, n: u64) -> usize
     ensures { PutWithin text.old at (decimal n) decimal_size result text.new }
 {
     let mut digits = [0u8; DECIMAL_SIZE];
-    let count = io::decimal(n, &mut digits);
-    put_bytes(text, at, &digits[..count])
+    let start = itoa::write_digits(n, &mut digits, DECIMAL_SIZE);
+    put_bytes(text, at, &digits[start..])
 }
 
 // A space and a number.
