@@ -1,4 +1,4 @@
-//! Links the static library that `rt staticlib xcf` proves and writes.
+//! Links the static library that `.ci/library` proves and writes.
 
 use std::env;
 use std::path::PathBuf;
@@ -15,7 +15,7 @@ fn main() {
     println!("cargo::rerun-if-changed={}", archive.display());
     if !archive.exists() {
         println!(
-            "cargo::error={} is missing: `rt staticlib xcf` proves the library and writes it",
+            "cargo::error={} is missing: `.ci/library` proves the library and writes it",
             archive.display()
         );
     }
