@@ -10,14 +10,14 @@ use xcf_numbers::{kind, property_type};
 use xcf_store::word::{wide, word_at};
 
 // A payload's only byte or its first word, and its second word; of a colour map, its count.
-#[derive(Drop)]
+#[derive(Clone, Copy)]
 pub struct Content {
     pub first: u32,
     pub second: u32,
 }
 
 // What a list says, for all four kinds of list.
-#[derive(Drop)]
+#[derive(Clone, Copy)]
 pub struct Properties {
     pub compression: u32,
     pub unmapped: u32,

@@ -1,11 +1,11 @@
 -- What a list of pointers is read as is one cursor, one count and one list: `given_unique`, from `reads_unique`, since the list is as
 -- long as the longest.
 -- Assumes nothing.
-use Prim.Native.Nat.{ℕ, ◌-◌, ◌≤◌}
+use Prim.Native.Nat.{ℕ, ◌≤◌}
 use mathlib.Core.Path.{◌≡◌, sym, ◌∙◌, ap}
-use mathlib.Core.List.{List, ◌++◌}
+use mathlib.Core.List.{List}
 use native.Mathlib.Omega.{arith}
-use lib.ListN.{length, take, replicate}
+use lib.ListN.{length, take}
 use lib.Seq.{length-take-le}
 use Rattle.xcf_numbers.specs.Limit.{layer_limit}
 use Rattle.xcf_walk.specs.declared.cursor.Cursor.{Cursor}

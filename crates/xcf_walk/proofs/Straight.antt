@@ -124,6 +124,7 @@ module _ {A B : Type 0} (k : A → Walk B) where
   straight_first (refuse n p) s = straight_refuse
   straight_first (pass n h) (straight_pass s) = straight_pass (λ b. straight_first (h b) (s b))
   straight_first (ask h) (straight_ask s) = straight_ask (λ at size. straight_first (h at size) (s at size))
+  straight_first (move _ _) s = elim s [ ]
 
   pub straight_rest : (w : Walk A) (f : List ℕ) (at : ℕ) {a : A} {q : ℕ} → Straight (w >>= k) → got a q ≡ run w f at → Straight (k a)
   unfolding run
@@ -131,6 +132,7 @@ module _ {A B : Type 0} (k : A → Walk B) where
   straight_rest (refuse n p) f at s e = absurd (got_not_refused e)
   straight_rest (pass n h) f at (straight_pass s) e = straight_rest (h (part f at n)) f (at + n) (s (part f at n)) (got_pass f at n h e).1
   straight_rest (ask h) f at (straight_ask s) e = straight_rest (h at (length f)) f at (s at (length f)) e
+  straight_rest (move _ _) f at s e = elim s [ ]
 
 -- what it passes over lies between its place and its end
 pub between : {A : Type 0} {w : Walk A} (f : List ℕ) (at : ℕ) {a : A} {q : ℕ} → Straight w → got a q ≡ run w f at

@@ -11,34 +11,34 @@ use xcf_store::word::word_at;
 use xcf_utf8::well_formed;
 
 // A place in a file while the number is 0; else the first fault's number and place, which every further step keeps.
-#[derive(Drop)]
+#[derive(Clone, Copy)]
 pub struct Cursor {
     pub at: usize,
     pub number: u32,
 }
 
-#[derive(Drop)]
+#[derive(Clone, Copy)]
 pub struct WordRead {
     pub value: u32,
     pub cursor: Cursor,
 }
 
 // A number as wide as a place, as pointers are.
-#[derive(Drop)]
+#[derive(Clone, Copy)]
 pub struct NumberRead {
     pub value: usize,
     pub cursor: Cursor,
 }
 
 // The place of a name's bytes, their number, and whether they are well-formed UTF-8.
-#[derive(Drop)]
+#[derive(Clone, Copy)]
 pub struct Name {
     pub place: usize,
     pub length: usize,
     pub utf8: bool,
 }
 
-#[derive(Drop)]
+#[derive(Clone, Copy)]
 pub struct NameRead {
     pub name: Name,
     pub cursor: Cursor,

@@ -1,5 +1,6 @@
 // A file read forward by a cursor: words, strings, property lists and lists of pointers.
 #![tactic(auto)]
+
 pub mod cursor;
 mod pointers;
 mod property;

@@ -12,7 +12,7 @@ use xcf_numbers::refusal;
 use xcf_store::rising::rising_pointers;
 
 // The pointers read, at the list's start, and zeros behind them; beside a refusal there are none. The longest list is the layers'.
-#[derive(Drop)]
+#[derive(Clone, Copy)]
 pub struct PointersRead {
     pub list: [usize; LAYER_LIMIT as usize],
     pub count: u32,
@@ -20,7 +20,7 @@ pub struct PointersRead {
 }
 
 // A pointer, and whether it is one of the list.
-#[derive(Drop)]
+#[derive(Clone, Copy)]
 struct PointerTurn {
     value: usize,
     again: bool,
@@ -28,7 +28,7 @@ struct PointerTurn {
 }
 
 // How many tile pointers are right, the last of them, and the cursor behind it.
-#[derive(Drop)]
+#[derive(Clone, Copy)]
 struct TilesRead {
     count: u32,
     last: usize,

@@ -12,14 +12,14 @@ use xcf_property::{
     map_length_ok,
 };
 
-#[derive(Drop)]
+#[derive(Clone, Copy)]
 pub struct ContentRead {
     pub content: Content,
     pub cursor: Cursor,
 }
 
 // A property: its type, the place of its type word, the place of its payload, what its length word says, and its content.
-#[derive(Drop)]
+#[derive(Clone, Copy)]
 pub struct Property {
     pub kind: u32,
     pub start: usize,
@@ -28,20 +28,20 @@ pub struct Property {
     pub content: Content,
 }
 
-#[derive(Drop)]
+#[derive(Clone, Copy)]
 pub struct PropertyRead {
     pub property: Property,
     pub cursor: Cursor,
 }
 
-#[derive(Drop)]
+#[derive(Clone, Copy)]
 pub struct PropertiesRead {
     pub properties: Properties,
     pub cursor: Cursor,
 }
 
 // The list after one more property, and whether another follows.
-#[derive(Drop)]
+#[derive(Clone, Copy)]
 struct PropertyTurn {
     properties: Properties,
     again: bool,
