@@ -28,12 +28,13 @@ fn read(path: &str) -> String {
     fs::read_to_string(root().join(path)).expect("a document")
 }
 
-/// All files of text below a folder.
+/// All files of text below a folder, but for what rt keeps in folders called out.
 fn texts(folder: &Path) -> Vec<String> {
     let mut texts_found = Vec::new();
     for entry in fs::read_dir(folder).expect("a folder") {
         let path = entry.expect("an entry").path();
         match path.is_dir() {
+            true if path.ends_with("out") => {}
             true => texts_found.extend(texts(&path)),
             false => texts_found.extend(fs::read_to_string(&path).ok()),
         }
@@ -81,7 +82,8 @@ fn quoted_paths_exist() {
     assert!(missing.is_empty(), "{missing:#?}");
 }
 
-/// Theorems have names of several words.
+/// Theorems have names of several words, and so have exported calls, refusals
+/// and one function of the library.
 #[test]
 fn quoted_theorems_are_proved() {
     let page = read("crates/xcf_theorems/proofs/Theorems.antt");
@@ -89,12 +91,18 @@ fn quoted_theorems_are_proved() {
         .lines()
         .filter_map(|line| line.strip_prefix("pub ")?.split(' ').next())
         .collect();
+    let refusals = read("crates/xcf_numbers/specs/Refusal.antt");
+    let is_other = |name: &str| {
+        let is_refusal = refusals.contains(&format!("abbrev pub {name} :"));
+        is_refusal || name.starts_with("xcf_") || name == "encode_stream"
+    };
+    let is_letter = |c: char| c.is_ascii_lowercase() || c.is_ascii_digit() || c == '_';
     let (mut found, mut unknown) = (0, Vec::new());
     for document in ["README.md", "docs/RULES.md"] {
         let text = read(document);
-        let is_name = |name: &&str| name.chars().all(|c| c.is_ascii_lowercase() || c == '-');
+        let is_name = |name: &&str| name.chars().all(is_letter);
         for name in quoted(&text).into_iter().filter(is_name) {
-            if name.contains('-') && !name.starts_with('-') {
+            if name.contains('_') && !is_other(name) {
                 found += 1;
                 unknown.extend((!proved.contains(name)).then(|| format!("{document}: {name}")));
             }

@@ -57,7 +57,8 @@ fn tokens(text: &str) -> impl Iterator<Item = &str> {
         .filter(|word| !word.is_empty())
 }
 
-/// The files below a folder, in order.
+/// The files below a folder, in order, but for what rt keeps in folders called
+/// out.
 fn files(folder: &Path) -> Vec<PathBuf> {
     let Ok(entries) = fs::read_dir(folder) else {
         return Vec::new();
@@ -66,6 +67,7 @@ fn files(folder: &Path) -> Vec<PathBuf> {
         .map(|entry| entry.expect("an entry").path())
         .collect();
     paths.sort();
+    paths.retain(|path| !path.ends_with("out"));
     let below = |path: PathBuf| {
         if path.is_dir() {
             files(&path)
