@@ -1,5 +1,6 @@
 // The line of a row in a listing.
 #![tactic(auto)]
+
 ghost use Rattle.std.specs.Prelude.{◌+◌, ◌*◌, ◌≤◌, length};
 ghost use Rattle.xcf_numbers.specs.Limit.{row_size};
 ghost use Rattle.xcf_store.specs.Put.{PutWithin};
