@@ -1,14 +1,14 @@
 -- Lines copied from a source into a target, in each of which they stand at equal distances: the next line lies in both
--- (`next_line`), behind it stand the others (`places_next`), and the code's copy pastes it in (`line_copied_lem`). By arithmetic over
--- the lengths.
+-- (`next_line`), behind it stand the others (`places_next`), and the code's copy pastes it in (`line_copied`). By arithmetic over the
+-- lengths.
 -- Assumes nothing.
 use Prim.Native.Nat.{ℕ, suc, ◌+◌, ◌-◌, ◌*◌, ◌≤◌, ◌<◌}
-use mathlib.Core.Path.{◌≡◌, ◌∙◌}
-use mathlib.Core.List.{List, ◌++◌}
+use mathlib.Core.Path.{◌≡◌, refl}
+use mathlib.Core.List.{List, append_assoc}
 use native.Mathlib.Omega.{arith}
-use lib.ListN.{length, take, drop, length-drop}
-use lib.Seq.{paste, length-take-le, take-take}
-use Rattle.xcf_laws.proofs.Tails.{tail_copied}
+use lib.ListN.{take, drop}
+use lib.Seq.{paste, drop-drop}
+use borrow.Rule.Slice.PartMut.{put_mid}
 
 -- a source and a target of these lengths have `rest` lines of `line` bytes: the source from `from` on, each `away` behind the one
 -- before, and the target from `to` on, each `apart` behind the one before
@@ -30,17 +30,8 @@ module _ {source from away target to apart line rest : ℕ} (p : LinePlaces sour
   pub places_next : LinePlaces source (from + away) away target (to + apart) apart line (rest - 1)
   places_next = record { inside = omega (arith, rw another at p.inside); room = omega (arith, rw another at p.room) }
 
--- the target's part up to its end, with a line of the source copied to its start
-abbrev pub line_copied : List ℕ → ℕ → List ℕ → ℕ → ℕ → List ℕ
-line_copied target to source from line =
-    let copied = take (from + line - from) (drop from source) in
-    take (length copied) copied ++ drop (length copied) (take (length target - to) (drop to target))
-
--- put back in its place
-pub line_copied_lem : (target : List ℕ) (to : ℕ) (source : List ℕ) (from line : ℕ) → (from + line ≤ length source) × (to + line ≤ length target)
-    → {part : List ℕ} → part ≡ line_copied target to source from line
-    → take to target ++ (part ++ drop (length target - to) (drop to target)) ≡ paste target to (drop from source) line
-line_copied_lem target to source from line next e =
-    let taken : from + line - from ≡ line = omega arith in
-    let size : length (take line (drop from source)) ≡ line = length-take-le line (drop from source) (simp length-drop (omega (arith, next))) in
-    rw (e, taken) (tail_copied target to (take line (drop from source)) ∙ rw (size, take-take line line _ (omega arith)))
+-- the target with a line of the source copied to its part from `to` on
+pub line_copied : (target : List ℕ) (to : ℕ) (source : List ℕ) (from line : ℕ) → {k : ℕ} {part : List ℕ} → k ≡ line
+    → part ≡ take (from + line - from) (drop from source) → put_mid to k target part ≡ paste target to (drop from source) line
+line_copied target to source from line size e =
+    let taken : from + line - from ≡ line = omega arith in rw (e, size, taken, drop-drop, append_assoc) refl

@@ -3,15 +3,16 @@
 -- Assumes nothing.
 use Prim.Native.Nat.{ℕ, zero, suc, ◌+◌, ◌-◌, ◌<◌}
 use mathlib.Core.Path.{◌≡◌, refl, ◌∙◌}
-use mathlib.Core.List.{List, ◌++◌}
+use mathlib.Core.List.{List}
 use native.Mathlib.Omega.{arith}
 use native.Mathlib.Nat.{not-suc-le-zero}
 use native.Mathlib.Numerals.{sub-one}
 use lib.ListN.{length, take, drop, length-drop}
 use lib.Seq.{paste, length-paste}
+use borrow.Rule.Slice.PartMut.{put_mid}
 use Rattle.xcf_numbers.specs.Limit.{word_limit}
 use Rattle.xcf_grid.specs.Parts.{put_lines, LineRoom}
-use Rattle.xcf_grid.proofs.LinePlaces.{LinePlaces, next_line, places_next, line_copied, line_copied_lem}
+use Rattle.xcf_grid.proofs.LinePlaces.{LinePlaces, next_line, places_next, line_copied}
 
 pub record LinesGoing (start : List ℕ) (at stride : ℕ) (tile : List ℕ) (line n : ℕ) (pixels : List ℕ) (to from rest : ℕ) : Type 0 where
   pub same : length pixels ≡ length start
@@ -45,9 +46,9 @@ module _ {start : List ℕ} {at stride : ℕ} {tile : List ℕ} {line n : ℕ} {
         put = put_next pixels to stride tile from line rest some ∙ g.put;
       }
 
-  pub going_copied : 0 < rest → {part : List ℕ} → part ≡ line_copied pixels to tile from line
-      → LinesGoing start at stride tile line n (take to pixels ++ (part ++ drop (length pixels - to) (drop to pixels))) (to + stride) (from + line) (rest - 1)
-  going_copied some e = rw (line_copied_lem pixels to tile from line (next_line g.places some) e) (going_line some)
+  pub going_copied : 0 < rest → {k : ℕ} {part : List ℕ} → k ≡ line → part ≡ take (from + line - from) (drop from tile)
+      → LinesGoing start at stride tile line n (put_mid to k pixels part) (to + stride) (from + line) (rest - 1)
+  going_copied some size e = rw (line_copied pixels to tile from line size e) (going_line some)
 
   pub going_over : rest ≡ 0 → pixels ≡ put_lines start at stride tile 0 line n
   unfolding put_lines

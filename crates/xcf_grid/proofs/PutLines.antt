@@ -32,7 +32,7 @@ module _ (stride : ℕ) (tile : List ℕ) (line : ℕ) where
       → length (put_lines pixels to stride tile from line n) ≡ length pixels
   unfolding put_lines
   put_lines-length pixels to from zero h = refl
-  put_lines-length pixels to from (suc n) h = put_lines-length _ (to + stride) (from + line) n (others h) ∙ first_length h
+  put_lines-length pixels to from (suc n) h = put_lines-length (paste pixels to (drop from tile) line) (to + stride) (from + line) n (others h) ∙ first_length h
 
   pub put_lines-outside : (pixels : List ℕ) (to from n : ℕ) → LineFits pixels to stride tile from line n
       → (i : ℕ) → ((j : ℕ) → j < n → to + stride * j ≤ i → i < to + stride * j + line → ⊥)
@@ -40,7 +40,7 @@ module _ (stride : ℕ) (tile : List ℕ) (line : ℕ) where
   unfolding put_lines
   put_lines-outside pixels to from zero h i out = refl
   put_lines-outside pixels to from (suc n) h i out =
-      put_lines-outside _ (to + stride) (from + line) n (others h) i
+      put_lines-outside (paste pixels to (drop from tile) line) (to + stride) (from + line) n (others h) i
       (λ j below low high. out (suc j) (omega (arith, below)) (omega (arith, low)) (omega (arith, high)))
       ∙ get_or-paste-outside pixels to (drop from tile) line (omega (arith, first_target h)) (first_there h) i
       (λ low high. out 0 (omega arith) (omega (arith, low)) (omega (arith, high)))
@@ -54,10 +54,10 @@ module _ (stride : ℕ) (tile : List ℕ) (line : ℕ) where
       let place : to + stride * 0 + b ≡ to + b = omega arith in
       let origin : from + line * 0 + b ≡ from + b = omega arith in
       rw (place, origin)
-      (put_lines-outside _ (to + stride) (from + line) n (others h) (to + b) (λ j _ low _. omega (arith, low, within, apart))
+      (put_lines-outside (paste pixels to (drop from tile) line) (to + stride) (from + line) n (others h) (to + b) (λ j _ low _. omega (arith, low, within, apart))
       ∙ get_or-paste-inside pixels to (drop from tile) line (omega (arith, first_target h)) (first_there h) b within
       ∙ get_or-drop from tile b 0)
   put_lines-inside apart pixels to from (suc n) h (suc j) b below within =
       let place : to + stride * suc j + b ≡ to + stride + stride * j + b = omega arith in
       let origin : from + line * suc j + b ≡ from + line + line * j + b = omega arith in
-      rw (place, origin) (put_lines-inside apart _ (to + stride) (from + line) n (others h) j b (omega (arith, below)) within)
+      rw (place, origin) (put_lines-inside apart (paste pixels to (drop from tile) line) (to + stride) (from + line) n (others h) j b (omega (arith, below)) within)

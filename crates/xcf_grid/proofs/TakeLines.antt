@@ -3,17 +3,18 @@
 -- Assumes nothing.
 use Prim.Native.Nat.{ℕ, zero, suc, ◌+◌, ◌-◌, ◌≤◌, ◌<◌}
 use mathlib.Core.Path.{◌≡◌, refl, ◌∙◌}
-use mathlib.Core.List.{List, ◌++◌}
+use mathlib.Core.List.{List}
 use native.Mathlib.Omega.{arith}
 use native.Mathlib.Numerals.{sub-one}
 use lib.ListN.{length, take, drop}
 use lib.Seq.{sets, sets-eq, length-sets}
+use borrow.Rule.Slice.PartMut.{put_mid}
 use Rattle.xcf_numbers.specs.Limit.{word_limit}
 use Rattle.xcf_store.specs.Word.{part}
 use Rattle.xcf_store.proofs.Stores.{sets_append}
 use Rattle.xcf_store.proofs.Parts.{part_length}
 use Rattle.xcf_grid.specs.Parts.{lines, LinesFit}
-use Rattle.xcf_grid.proofs.LinePlaces.{LinePlaces, next_line, places_next, line_copied, line_copied_lem}
+use Rattle.xcf_grid.proofs.LinePlaces.{LinePlaces, next_line, places_next, line_copied}
 
 pub record Taking (pixels : List ℕ) (start stride line n : ℕ) (old tile : List ℕ) (from to rest : ℕ) : Type 0 where
   pub same : length tile ≡ length old
@@ -26,11 +27,11 @@ pub taking_start : {pixels : List ℕ} {start stride line n : ℕ} {old : List �
 taking_start f = record { same = refl; places = record { inside = f.source; room = omega (arith, f.target) }; small = f.small; taken = refl }
 
 line_stored : (tile : List ℕ) (to : ℕ) (pixels : List ℕ) (from line : ℕ) → (from + line ≤ length pixels) × (to + line ≤ length tile)
-    → {copied : List ℕ} → copied ≡ line_copied tile to pixels from line
-    → take to tile ++ (copied ++ drop (length tile - to) (drop to tile)) ≡ sets tile to (part pixels from line)
-line_stored tile to pixels from line next e =
+    → {k : ℕ} {copied : List ℕ} → k ≡ line → copied ≡ take (from + line - from) (drop from pixels)
+    → put_mid to k tile copied ≡ sets tile to (part pixels from line)
+line_stored tile to pixels from line next whole e =
     let size = part_length pixels from line next.0 in
-    line_copied_lem tile to pixels from line next e ∙ rw (sets-eq (part pixels from line) tile to (omega (arith, size, next.1)), size)
+    line_copied tile to pixels from line whole e ∙ rw (sets-eq (part pixels from line) tile to (omega (arith, size, next.1)), size)
 
 lines_next : (tile pixels : List ℕ) (from stride line to rest : ℕ) → from + line ≤ length pixels → 0 < rest
     → sets (sets tile to (part pixels from line)) (to + line) (lines pixels (from + stride) stride line (rest - 1))
@@ -51,9 +52,9 @@ module _ {pixels : List ℕ} {start stride line n : ℕ} {old tile : List ℕ} {
         taken = lines_next tile pixels from stride line to rest (next_line g.places some).0 some ∙ g.taken;
       }
 
-  pub taking_copied : 0 < rest → {copied : List ℕ} → copied ≡ line_copied tile to pixels from line
-      → Taking pixels start stride line n old (take to tile ++ (copied ++ drop (length tile - to) (drop to tile))) (from + stride) (to + line) (rest - 1)
-  taking_copied some e = rw (line_stored tile to pixels from line (next_line g.places some) e) (taking_line some)
+  pub taking_copied : 0 < rest → {k : ℕ} {copied : List ℕ} → k ≡ line → copied ≡ take (from + line - from) (drop from pixels)
+      → Taking pixels start stride line n old (put_mid to k tile copied) (from + stride) (to + line) (rest - 1)
+  taking_copied some size e = rw (line_stored tile to pixels from line (next_line g.places some) size e) (taking_line some)
 
   pub taking_over : rest ≡ 0 → tile ≡ sets old 0 (lines pixels start stride line n)
   unfolding lines

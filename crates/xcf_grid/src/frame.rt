@@ -11,7 +11,7 @@ use xcf_table::Row;
 pub(crate) const SIDE: usize = TILE_SIDE as usize;
 
 // A tile's column and line among the tiles, and its sides.
-#[derive(Drop)]
+#[derive(Clone, Copy)]
 pub struct Frame {
     pub column: u32,
     pub line: u32,

@@ -1,5 +1,6 @@
 // The tiles of a drawable.
 #![tactic(auto)]
+
 pub mod frame;
 pub mod put;
 pub mod take;
