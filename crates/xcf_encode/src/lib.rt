@@ -1,5 +1,6 @@
 // One stream, and one tile, encoded.
 #![tactic(auto)]
+
 mod streams;
 mod tile;
 
