@@ -1,5 +1,6 @@
 // The rows that the writer takes.
 #![tactic(auto)]
+
 mod kind;
 pub mod row;
 mod seen;

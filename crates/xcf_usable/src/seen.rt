@@ -8,7 +8,7 @@ use xcf_numbers::{flag, kind};
 use xcf_table::{Row, row_at, unused_row};
 
 // How many layers, channels and unused rows, active layers, active channels or masks, and selections; and the last row.
-#[derive(Drop)]
+#[derive(Clone, Copy)]
 pub struct Seen {
     pub layers: u32,
     pub channels: u32,
