@@ -13,7 +13,7 @@ use xcf_table::canvas::{side_ok, type_ok};
 use xcf_walk::cursor::{Cursor, Name, WordRead};
 
 // What every drawable has behind its sides and type; list is the place of its properties.
-#[derive(Drop)]
+#[derive(Clone, Copy)]
 pub struct Fields {
     pub name: Name,
     pub list: usize,
@@ -21,13 +21,13 @@ pub struct Fields {
     pub hierarchy: usize,
 }
 
-#[derive(Drop)]
+#[derive(Clone, Copy)]
 pub struct FieldsRead {
     pub fields: Fields,
     pub cursor: Cursor,
 }
 
-#[derive(Drop)]
+#[derive(Clone, Copy)]
 pub struct Layer {
     pub width: u32,
     pub height: u32,
@@ -36,14 +36,14 @@ pub struct Layer {
     pub mask: usize,
 }
 
-#[derive(Drop)]
+#[derive(Clone, Copy)]
 pub struct LayerRead {
     pub layer: Layer,
     pub cursor: Cursor,
 }
 
 // What a mask or channel has from its layer or the canvas, and the row that owns it.
-#[derive(Drop)]
+#[derive(Clone, Copy)]
 pub struct Owner {
     pub kind: u32,
     pub width: u32,

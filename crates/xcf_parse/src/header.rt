@@ -24,7 +24,7 @@ const TAG_COUNT: u32 = 5;
 
 const VERSIONS: [u32; TAG_COUNT as usize] = [0, 1, 2, 3, version::WIDE];
 
-#[derive(Drop)]
+#[derive(Clone, Copy)]
 pub struct VersionRead {
     pub version: u32,
     pub cursor: Cursor,

@@ -10,7 +10,7 @@ use xcf_numbers::refusal;
 use xcf_walk::cursor::{Cursor, NumberRead};
 
 // The place of a drawable's first tile pointer.
-#[derive(Drop)]
+#[derive(Clone, Copy)]
 pub struct PlaceRead {
     pub place: usize,
     pub cursor: Cursor,

@@ -15,7 +15,7 @@ use xcf_store::pointer::{NARROW, WIDE};
 use xcf_walk::cursor::{Cursor, WordRead, start};
 
 // What stands before the pointers.
-#[derive(Drop)]
+#[derive(Clone, Copy)]
 pub struct Head {
     pub version: u32,
     pub width: u32,
@@ -24,7 +24,7 @@ pub struct Head {
     pub compression: u32,
 }
 
-#[derive(Drop)]
+#[derive(Clone, Copy)]
 pub struct HeadRead {
     pub head: Head,
     pub cursor: Cursor,
