@@ -45,7 +45,8 @@ pub fn encode_tile(
 {
     if xcf_tile::usable_tile(width, height, depth) {
         let n = (width * height) as usize;
-        if pixels.len() == n * depth as usize {
+        let length = pixels.len();
+        if length == n * depth as usize {
             return encode_pixels(pixels, n, depth as usize, output);
         }
         return EncodeAnswer {
