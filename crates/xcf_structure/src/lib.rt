@@ -1,5 +1,6 @@
 // A drawable's structure: measured and stored.
 #![tactic(auto)]
+
 ghost use Rattle.std.specs.Prelude.{◌≡◌, cond, ◌+◌, ◌≤◌, length};
 ghost use Rattle.xcf_numbers.specs.Limit.{name_limit};
 ghost use Rattle.xcf_store.specs.Put.{Put};
