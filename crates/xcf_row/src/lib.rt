@@ -1,5 +1,6 @@
 // The row of a layer, a mask or a channel, from what its structure says.
 #![tactic(auto)]
+
 ghost use Rattle.std.specs.Prelude.{◌≡◌, ◌≤◌};
 ghost use Rattle.xcf_numbers.specs.Limit.{file_limit, side_limit};
 ghost use Rattle.xcf_numbers.specs.Flag.{not_utf8};
