@@ -15,7 +15,7 @@ use xcf_table::put_row;
 use xcf_walk::cursor::Cursor;
 
 // How many rows the table holds.
-#[derive(Drop)]
+#[derive(Clone, Copy)]
 pub struct RowsRead {
     pub rows: u32,
     pub cursor: Cursor,

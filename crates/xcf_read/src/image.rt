@@ -15,7 +15,7 @@ use xcf_parse::image::{Head, pointer_size, read_head};
 use xcf_table::canvas::Canvas;
 use xcf_walk::cursor::Cursor;
 
-#[derive(Drop)]
+#[derive(Clone, Copy)]
 pub struct ImageRead {
     pub head: Head,
     pub rows: u32,

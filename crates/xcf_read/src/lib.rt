@@ -1,5 +1,6 @@
 // The reader: a file's structures, checked rule by rule, as rows of a lent table.
 #![tactic(auto)]
+
 mod drawable;
 mod image;
 
@@ -14,7 +15,7 @@ use xcf_table::clear_from;
 
 // What acceptance gives; size is how many bytes a pointer has. A refusal's other fields are 0.
 #[repr(C)]
-#[derive(Drop)]
+#[derive(Clone, Copy)]
 pub struct ReadAnswer {
     pub number: u64,
     pub place: u64,
