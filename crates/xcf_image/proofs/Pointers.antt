@@ -85,4 +85,4 @@ module _ {start : List ℕ} {to : ℕ} {table : List ℕ} {n kind : ℕ} {places
     pub pointers_whole : {r : ℕ} {new : List ℕ} → Put output next (word_bytes 0) r new
         → Put start to (words (kind_places kind (rows_from table n 0) places ++ (0 ∷ []))) r new
     unfolding flat_map
-    pointers_whole p = rw (← all_done, flat_map-append, append-nil) (put_append g.stored p)
+    pointers_whole p = rw (← all_done, flat_map-append word_bytes g.done (0 ∷ []), append-nil) (put_append g.stored p)

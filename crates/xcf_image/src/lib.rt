@@ -1,5 +1,6 @@
 // The image's structure: measured and stored.
 #![tactic(auto)]
+
 ghost use Rattle.std.specs.Prelude.{◌≡◌, cond, [], ◌∷◌, ◌++◌, ◌+◌, ◌≤◌, length, get_or};
 ghost use Rattle.xcf_numbers.specs.Limit.{table_rows, image_limit, places_size};
 ghost use Rattle.xcf_store.specs.Put.{Put};
