@@ -1,5 +1,6 @@
 // The lines of a listing that are about the whole file.
 #![tactic(auto)]
+
 ghost use Rattle.std.specs.Prelude.{◌≤◌, length};
 ghost use Rattle.xcf_store.specs.Put.{PutWithin};
 ghost use Rattle.xcf_text.specs.Text.{line_size};
