@@ -1,5 +1,6 @@
 // A drawable: measured and stored.
 #![tactic(auto)]
+
 mod tile;
 
 ghost use Rattle.std.specs.Prelude.{◌≡◌, cond, ◌+◌, ◌*◌, ◌≤◌, length};

@@ -1,0 +1,14 @@
+-- `put_each` meets its contract: `Storing` holds at the loop's head, and a pointer and an encoding stored keep it.
+use Prim.Native.Nat.{◌-◌}
+use mathlib.Core.Path.{◌≡◌}
+use lib.ListN.{length}
+use Rattle.xcf_numbers.specs.Limit.{tile_size}
+use Rattle.xcf_drawable.proofs.TilesStored.{Storing}
+use Rattle.xcf_drawable.proofs.put_each.Given as goal
+
+abbrev pub invariant-loop-t : goal.invariant-loop-t
+invariant-loop-t l =
+    Storing l.row l.pixels l.initial.output l.link l.first l.output l.t l.at l.to × (length l.tile ≡ tile_size)
+
+abbrev pub decreases-loop-t : goal.decreases-loop-t
+decreases-loop-t l = l.row.count - l.t
