@@ -1,5 +1,6 @@
 // The tiles of an XCF drawable, decoded to its pixels and marks.
 #![tactic(auto)]
+
 mod check;
 mod count;
 mod drawable;
