@@ -1,5 +1,6 @@
 // The used rows of a table: counted, measured and stored.
 #![tactic(auto)]
+
 ghost use Rattle.std.specs.Prelude.{◌≡◌, ◌+◌, ◌*◌, ◌≤◌, ◌<◌, length};
 ghost use Rattle.std.proofs.lemmas.List.Edits.{sets};
 ghost use Rattle.xcf_numbers.specs.Limit.{file_limit, table_rows, image_limit, drawable_limit, places_size};
