@@ -1,5 +1,6 @@
 // The listing of an XCF file as text.
 #![tactic(auto)]
+
 pub mod print;
 mod rows;
 
