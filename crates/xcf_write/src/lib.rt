@@ -1,5 +1,6 @@
 // An XCF file, written from rows, names and pixels.
 #![tactic(auto)]
+
 mod check;
 mod file;
 
