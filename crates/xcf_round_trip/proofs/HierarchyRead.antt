@@ -47,7 +47,7 @@ reads_tiles before [] small rise s =
     reads_gives (then_here _ (then _ (reads_number 0 [] s (omega arith)) (reads_must _ Refusal.bad_tile_pointer _ refl)))
 reads_tiles {f} {p} before (q ∷ ps) small rise s =
     let low : q < 4294967296 = omega (arith, rise.1.0) in
-    let next = reads_tiles q ps small rise.1.1 (words_rest q (ps ++ (0 ∷ [])) s) in
+    let next = reads_tiles {p = p + 4} q ps small rise.1.1 (words_rest q (ps ++ (0 ∷ [])) s) in
     reads_gives
     (then_here _ (then_length _ (then _ (reads_number q (ps ++ (0 ∷ [])) s low)
     (then _ (reads_must _ Refusal.bad_tile_pointer p (rw (lt-ltb before q rise.0, lt-ltb q (length f) rise.1.0))) (gives_reads next)))))

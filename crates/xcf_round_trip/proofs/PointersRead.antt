@@ -34,7 +34,7 @@ reads_pointers zero before end (q ∷ ps) low rise few s = absurd (omega arith)
 reads_pointers (suc most) before end [] low rise few s = then _ (reads_number 0 [] s (omega arith)) ends
 reads_pointers {f} {p} (suc most) before end (q ∷ ps) low rise few s =
     let place : p + 4 + length (closed ps) ≡ p + length (closed (q ∷ ps)) = omega arith in
-    let rest = reads_pointers most q end ps low rise.1.1 (omega arith) (words_rest q (ps ++ (0 ∷ [])) s) in
+    let rest = reads_pointers {p = p + 4} most q end ps low rise.1.1 (omega arith) (words_rest q (ps ++ (0 ∷ [])) s) in
     rw (← place)
     (then _ (reads_number q (ps ++ (0 ∷ [])) s (omega arith))
     (rw (ne_eqb q 0 (λ z. absurd (omega arith))) (then _ rest ends)))

@@ -87,7 +87,7 @@ unfolding put
 put_mapped list x q mapped = rw mapped (cond_same (eqb x.kind PropertyType.colour_map) 0)
 
 -- the turns of a list, more of them than bytes are left
-turns_read : {f : List ℕ} {p size list : ℕ} {xs : List Property} (q : Properties) (n : ℕ) → AllTaken size list xs → q.unmapped ≡ 0
+turns_read : {f : List ℕ} {size list p : ℕ} {xs : List Property} (q : Properties) (n : ℕ) → AllTaken size list xs → q.unmapped ≡ 0
     → length f ≤ p + n → Stands f p (list_bytes xs)
     → ReadsTo (turns (suc n) (property_turn size list) q) f p (put_all list xs q) (p + length (list_bytes xs))
 unfolding turns put_all flat_map
@@ -95,11 +95,11 @@ turns_read q n (closes {x} e t) mapped enough s =
     rw append-nil (then _ (reads_turn t _ q mapped (stands_front (property_bytes x) [] s)) (rw e ends))
 turns_read q zero (goes {x} {xs} e t ts) mapped enough s =
     absurd (omega (arith, s.inside, property_long x, length-append (property_bytes x) (list_bytes xs)))
-turns_read q (suc n) (goes {x} {xs} e t ts) mapped enough s =
+turns_read {p = p} q (suc n) (goes {x} {xs} e t ts) mapped enough s =
     rw (length-append, ← add_assoc)
     (then _ (reads_turn t _ q mapped (stands_front (property_bytes x) (list_bytes xs) s))
     (rw e
-    (turns_read (put_entry _ x q) n ts (put_mapped _ x q mapped) (omega (arith, property_long x))
+    (turns_read {p = p + length (property_bytes x)} (put_entry _ x q) n ts (put_mapped _ x q mapped) (omega (arith, property_long x))
     (stands_behind (property_bytes x) (list_bytes xs) s))))
 
 pub reads_list : {f : List ℕ} {p size list : ℕ} {xs : List Property} → AllTaken size list xs → Stands f p (list_bytes xs)

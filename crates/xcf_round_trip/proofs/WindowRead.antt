@@ -36,7 +36,7 @@ pointer_read {f} {p} before (n ∷ ps) small rises s zero below =
     rw (first, rw word_length at same) (word_value n (omega (arith, rises.1.0)))
 pointer_read {f} {p} before (n ∷ ps) small rises s (suc t) below =
     let next : p + narrow * suc t ≡ p + narrow + narrow * t = omega arith in
-    rw next (pointer_read n ps small rises.1.1 (words_rest n (ps ++ (0 ∷ [])) s) t (omega arith))
+    rw next (pointer_read {p = p + narrow} n ps small rises.1.1 (words_rest n (ps ++ (0 ∷ [])) s) t (omega arith))
 
 -- lists one behind the other: the next start, and that each list stands at its own
 start_next : (xss : List (List ℕ)) (q t : ℕ) → suc t < length xss
@@ -52,7 +52,7 @@ stands_start : {f : List ℕ} {q : ℕ} (xss : List (List ℕ)) → Stands f q (
 unfolding starts flatten
 stands_start [] s t below = absurd (omega arith)
 stands_start (xs ∷ xss) s zero below = stands_front xs (flatten xss) s
-stands_start (xs ∷ xss) s (suc t) below = stands_start xss (stands_behind xs (flatten xss) s) t (omega arith)
+stands_start {q = q} (xs ∷ xss) s (suc t) below = stands_start {q = q + length xs} xss (stands_behind xs (flatten xss) s) t (omega arith)
 
 -- a longer part of the file begins with what stands there
 part_begins : {f : List ℕ} {p : ℕ} (bs : List ℕ) → Stands f p bs → (n : ℕ) → length bs ≤ n
