@@ -77,10 +77,10 @@ only_tile t k is = by_row (λ k. t < (row_of given k).count → t ≡ 0) only on
 
 none_consumed : ConsumedByGood (pair_file 128) given 233 → ⊥
 none_consumed c =
-    let tile = only_tile c.t c.k c.well-formed.is in
+    let tile = only_tile c.t c.k c.good.is in
     by_row (λ k. (tile_given (pair_file 128) given k 0).mark ≡ 0 → Consumed (pair_file 128) given k 0 233 → ⊥)
     (λ _. not_consumed 128) (λ good _. let short : Mark.short ≡ 0 = sym tiles.marked ∙ good in omega (arith, short))
-    c.k c.well-formed.is.row (rw tile at c.well-formed.good) (rw tile at c.consumed)
+    c.k c.good.is.row (rw tile at c.good.good) (rw tile at c.consumed)
 
 covers : (i : ℕ) → 145 ≤ i → i < 235 → InWindow narrow (pair_file 255) (row_of given 0) 0 i
 unfolding table_of big_endian row_at InWindow pointer_at window_end window_length
