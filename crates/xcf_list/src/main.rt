@@ -1,5 +1,6 @@
 // Lists the XCF file on standard input.
 #![tactic(auto)]
+
 use std::io;
 use std::io::Read;
 use xcf_listing::print::print_listing;

@@ -1,5 +1,6 @@
 // Lists the XCF files that its arguments name, each behind a line with its name.
 #![tactic(auto)]
+
 use std::io::Read;
 use std::{env, fs, io};
 use xcf_listing::print::print_listing;

@@ -1,5 +1,6 @@
 // Runs the tile decoder and encoder on the records of standard input, and prints a line for each.
 #![tactic(auto)]
+
 mod record;
 
 use record::{Record, RecordRead};
@@ -31,11 +32,25 @@ fn step(s: u64, b: u8) -> u64 {
 
 fn decode(rt: &HostRuntime, r: Record, window: &[u8], lent: &mut [u8]) -> io::Result<()> {
     let a = xcf_tile::decode_tile(window, r.width, r.height, r.depth, r.compression, lent);
-    println!(rt; "tile {} {} {} {} {} {}", a.number, a.place, a.mark, a.consumed, a.operations, sum(lent))
+    println!(rt;
+        "tile {} {} {} {} {} {}",
+        a.number,
+        a.place,
+        a.mark,
+        a.consumed,
+        a.operations,
+        sum(lent)
+    )
 }
 
 fn print_encoded(rt: &HostRuntime, name: &str, a: EncodeAnswer, lent: &[u8]) -> io::Result<()> {
-    println!(rt; "{name} {} {} {} {}", a.number, a.place, a.length, sum(lent))
+    println!(rt;
+        "{name} {} {} {} {}",
+        a.number,
+        a.place,
+        a.length,
+        sum(lent)
+    )
 }
 
 fn encode(rt: &HostRuntime, r: Record, pixels: &[u8], lent: &mut [u8]) -> io::Result<()> {
