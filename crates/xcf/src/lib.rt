@@ -1,5 +1,6 @@
 // The exported C interface.
 #![tactic(auto)]
+
 ghost use Rattle.std.specs.Prelude.{◌≡◌};
 ghost use Rattle.xcf_numbers.specs.Limit.{file_limit};
 ghost use Rattle.xcf_tile.specs.Answer.{Decoded};
