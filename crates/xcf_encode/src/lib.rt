@@ -45,8 +45,7 @@ pub fn encode_tile(
 {
     if xcf_tile::usable_tile(width, height, depth) {
         let n = (width * height) as usize;
-        let length = pixels.len();
-        if length == n * depth as usize {
+        if pixels.len() == n * depth as usize {
             return encode_pixels(pixels, n, depth as usize, output);
         }
         return EncodeAnswer {

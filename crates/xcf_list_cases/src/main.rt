@@ -1,8 +1,11 @@
 // Lists the XCF files that its arguments name, each behind a line with its name.
 #![tactic(auto)]
 
-use std::io::Read;
-use std::{env, fs, io};
+ghost use Rattle.std.specs.Prelude.{◌≤◌, length, IfSome};
+
+use std::env::Env;
+use std::{fs, io};
+use xcf_input::read_full;
 use xcf_listing::print::print_listing;
 use xcf_listing::{INPUT_SIZE, TEXT_SIZE};
 use xcf_numbers::limit::TABLE_SIZE;
@@ -10,24 +13,52 @@ use xcf_numbers::limit::TABLE_SIZE;
 // The most cases that are listed.
 const CASES: usize = 64;
 
-fn print_case(rt: &HostRuntime, name: &str, table: &mut [u32], text: &mut [u8]) -> io::Result<()> {
-    println!(rt; "{name}")?;
-    let file = match fs::open(rt, name) {
-        Ok(file) => file,
-        Err(_) => {
-            return println!(rt; "not opened");
+// Reads the case to the input's start; how many bytes it has there, unless it cannot be opened.
+fn read_case(rt: &HostRuntime, name: &[u8], input: &mut [u8]) -> Option<usize>
+    ensures { IfSome result (λ n. n ≤ length input.new) }
+{
+    let path = str::from_utf8(name).ok()?;
+    let mut file = fs::open(rt, path).ok()?;
+    Some(read_full(&mut file, input))
+}
+
+fn print_case(
+    rt: &HostRuntime,
+    name: &[u8],
+    input: &mut [u8],
+    table: &mut [u32],
+    text: &mut [u8],
+) -> io::Result<()> {
+    rt.write_all(name)?;
+    rt.write_all(b"\n")?;
+    match read_case(rt, name, input) {
+        Some(n) => print_listing(rt, &input[..n], table, text),
+        None => rt.write_all(b"not opened\n"),
+    }
+}
+
+// The cases up to the first argument that is missing, empty or too long.
+fn print_cases(
+    rt: &HostRuntime,
+    name: &mut [u8],
+    input: &mut [u8],
+    table: &mut [u32],
+    text: &mut [u8],
+) -> io::Result<()> {
+    for i in 1..=CASES {
+        let n = rt.arg(i, name).unwrap_or(0);
+        if n == 0 {
+            return Ok(());
         }
-    };
-    let mut input = Vec::new(rt.alloc());
-    file.take(INPUT_SIZE as u64).read_to_end(&mut input)?;
-    print_listing(rt, &input, table, text)
+        print_case(rt, &name[..n], input, table, text)?;
+    }
+    Ok(())
 }
 
 fn main(rt: HostRuntime) -> io::Result<()> {
+    let mut name = [0u8; 256];
+    let mut input = [0u8; INPUT_SIZE];
     let mut table = [0u32; TABLE_SIZE];
     let mut text = [0u8; TEXT_SIZE];
-    for name in env::args(&rt)?.skip(1).take(CASES) {
-        print_case(&rt, name.as_str(), &mut table, &mut text)?;
-    }
-    Ok(())
+    print_cases(&rt, &mut name, &mut input, &mut table, &mut text)
 }

@@ -1,6 +1,7 @@
 -- The loops over rising pointers, by pairs and then one by one: `RisingLeft` holds at the first one's head (`going_start`), and what is
--- left there at the second's. A pair that rises keeps it (`going_pair`), and so does one that does (`going_next`). Where the next does not rise (`going_falls`, `going_beyond`) or none is left (`going_over`) it names the answer. The
--- pointers that lie in the file are all that can rise (`rising_in`).
+-- left there at the second's. A pair that rises keeps it (`going_pair`), and so does a pointer that rises (`going_next`). Where the next
+-- does not rise (`going_falls`, `going_beyond`) or none is left (`going_over`) it names the answer. The pointers that lie in the file are
+-- all that can rise (`rising_in`).
 -- Assumes nothing.
 use Prim.Native.Nat.{ℕ, zero, suc, ◌+◌, ◌-◌, ◌*◌, ◌≤◌, ◌<◌}
 use mathlib.Core.Path.{◌≡◌, refl, sym, ◌∙◌, ap}

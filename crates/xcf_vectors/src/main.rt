@@ -5,8 +5,8 @@ mod record;
 
 use record::{Record, RecordRead};
 use std::io;
-use std::io::Read;
 use xcf_encode::EncodeAnswer;
+use xcf_input::read_full;
 
 // The most bytes of input that are read.
 const INPUT_SIZE: usize = 131072;
@@ -107,8 +107,8 @@ fn run_all(rt: &HostRuntime, input: &[u8], buffer: &mut [u8]) -> io::Result<()> 
 }
 
 fn main(rt: HostRuntime) -> io::Result<()> {
-    let mut input = Vec::new(rt.alloc());
-    rt.reader().take(INPUT_SIZE as u64).read_to_end(&mut input)?;
+    let mut input = [0u8; INPUT_SIZE];
+    let n = read_full(&mut rt.reader(), &mut input);
     let mut buffer = [0u8; BUFFER_SIZE];
-    run_all(&rt, &input, &mut buffer)
+    run_all(&rt, &input[..n], &mut buffer)
 }

@@ -24,14 +24,14 @@ overflow_mul-n-then-usable_tile c = omega (arith, sizes _ _ _ c.usable_tile.ensu
 
 pub encode_pixels-requires : goal.encode_pixels-requires
 encode_pixels-requires c =
-    let s = sizes _ _ _ c.usable_tile.ensures c.if-usable_tile.true in (c.if-length-n.true, (s.0, s.1.1))
+    let s = sizes _ _ _ c.usable_tile.ensures c.if-usable_tile.true in (c.if-pixels-n.true, (s.0, s.1.1))
 
-pub returns-then-length-n : goal.returns-then-length-n
-returns-then-length-n c =
-    tile_encoded (sym c.usable_tile.ensures ∙ c.if-usable_tile.true) c.if-length-n.true c.encode_pixels.ensures
+pub returns-then-pixels-n : goal.returns-then-pixels-n
+returns-then-pixels-n c =
+    tile_encoded (sym c.usable_tile.ensures ∙ c.if-usable_tile.true) c.if-pixels-n.true c.encode_pixels.ensures
 
 pub returns-then-usable_tile : goal.returns-then-usable_tile
-returns-then-usable_tile c = other_length _ _ _ _ _ (sym c.usable_tile.ensures ∙ c.if-usable_tile.true) c.if-length-n.false
+returns-then-usable_tile c = other_length _ _ _ _ _ (sym c.usable_tile.ensures ∙ c.if-usable_tile.true) c.if-pixels-n.false
 
 pub returns : goal.returns
 returns c = unusable _ _ _ _ _ (sym c.usable_tile.ensures ∙ c.if-usable_tile.false)

@@ -1,4 +1,4 @@
--- `list_accepted` meets its contract: the canvas's line and the rows' behind it are one piece of text (`accepted-lines`), and a table
+-- `list_accepted` meets its contract: the canvas's line and the rows' behind it are one piece of text (`within_append`), and a table
 -- has at most 128 rows, whose lines fit.
 use native.Mathlib.Omega.{arith}
 use Rattle.xcf_store.proofs.Stores.{within_append, within_more}

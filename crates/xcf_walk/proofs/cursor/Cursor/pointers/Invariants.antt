@@ -1,5 +1,5 @@
 -- `pointers` meets its contract: `PointersGoing` holds at the loop's head; a pointer keeps it (`going_next`),
--- and so does what ends the loop, a 0 or a refusal (`going_last`). Beside a refusal stands no pointer.
+-- and so does what ends the loop, a 0 or a refusal. Beside a refusal stands no pointer (`given_none`).
 use Prim.Native.Nat.{suc, ◌-◌}
 use mathlib.Core.Bool.{cond}
 use Rattle.xcf_walk.proofs.PointersLoop.{PointersGoing}
