@@ -14,11 +14,13 @@ pub loop-pair-preserved : goal.loop-pair-preserved
 loop-pair-preserved c =
     let a = c.args in
     let pair = c.loop-pair.pair in
+    let size = c.bytes-size.result in
+    let whole = rw (← c.bytes-size.ensures) at c.requires in
     let is_there : 2 * pair + 2 ≤ a.n = omega (arith, div-add-mod a.n 2) in
-    let last : a.at + a.size * (2 * pair + 1) + a.size ≤ length a.file.now = one_of _ _ _ _ c.requires.1 (omega (arith, is_there)) in
-    let inside : a.at + a.size * (2 * pair) + a.size + a.size ≤ length a.file.now = omega (arith, last) in
-    let first = c.number_at-first.ensures in
-    let second = c.number_at-second.ensures in
+    let last : a.at + size * (2 * pair + 1) + size ≤ length a.file.now = one_of _ _ _ _ whole (omega (arith, is_there)) in
+    let inside : a.at + size * (2 * pair) + size + size ≤ length a.file.now = omega (arith, last) in
+    let first = rw (← c.bytes-size.ensures) at c.number_at-first.ensures in
+    let second = rw (← c.bytes-size.ensures) at c.number_at-second.ensures in
     let two : 2 * (pair + 1) ≡ 2 * pair + 2 = omega arith in
     let t = (or-eq-false-eq-eq-false-and-eq-false _ _).0 c.if-first-last.false in
     let rise = (or-eq-false-eq-eq-false-and-eq-false _ _).0 t.0 in
