@@ -7,11 +7,7 @@ pub fn put_word(output: &mut [u8], to: usize, n: u32) -> usize
     requires { to + 4 ≤ length output.old }
     ensures { Put output.old to (word_bytes n) result output.new }
 {
-    output[to] = (n / 16777216 % 256) as u8;
-    output[to + 1] = (n / 65536 % 256) as u8;
-    output[to + 2] = (n / 256 % 256) as u8;
-    output[to + 3] = (n % 256) as u8;
-    to + 4
+    put_bytes(output, to, &n.to_be_bytes())
 }
 
 pub fn put_words(output: &mut [u8], to: usize, numbers: &[u32]) -> usize
@@ -19,10 +15,8 @@ pub fn put_words(output: &mut [u8], to: usize, numbers: &[u32]) -> usize
     ensures { Put output.old to (words numbers.now) result output.new }
 {
     let mut next = to;
-    let mut i = 0;
-    while i < numbers.len() {
-        next = put_word(output, next, numbers[i]);
-        i += 1;
+    for n in numbers {
+        next = put_word(output, next, *n);
     }
     next
 }

@@ -47,8 +47,7 @@ fn rising_pairs(file: &[u8], at: usize, n: u32, width: Width) -> Rising
     let size = width.bytes();
     let pairs = n / 2;
     let mut last: usize = 0;
-    let mut pair: u32 = 0;
-    while pair < pairs {
+    for pair in 0..pairs {
         let place = at + size * (2 * pair as usize);
         let first = number_at(file, place, width);
         let second = number_at(file, place + size, width);
@@ -59,10 +58,9 @@ fn rising_pairs(file: &[u8], at: usize, n: u32, width: Width) -> Rising
             };
         }
         last = second;
-        pair += 1;
     }
     Rising {
-        count: 2 * pair,
+        count: 2 * pairs,
         last,
     }
 }
@@ -76,17 +74,12 @@ pub fn rising_pointers(file: &[u8], at: usize, n: u32, width: Width) -> Rising
     let most = pointers_in(file, at, n, width);
     let pairs = rising_pairs(file, at, most, width);
     let mut last = pairs.last;
-    let mut count = pairs.count;
-    while count < most {
+    for count in pairs.count..most {
         let next = number_at(file, at + size * (count as usize), width);
-        if next <= last {
-            return Rising { count, last };
-        }
-        if end <= next {
+        if (next <= last) | (end <= next) {
             return Rising { count, last };
         }
         last = next;
-        count += 1;
     }
-    Rising { count, last }
+    Rising { count: most, last }
 }

@@ -1,6 +1,7 @@
--- Four stores, high byte first: `put_word`.
-use Rattle.xcf_store.proofs.Words.{put_word}
+-- The bytes that the library spells a number in are those of its word, high byte first.
+use Rattle.xcf_store.specs.Word.{word_bytes}
 use Rattle.xcf_store.proofs.put.put_word.Goals as goal
 
 pub returns : goal.returns
-returns c = put_word _ _ _
+unfolding word_bytes
+returns c = rw c.to_be_bytes.ensures at c.put_bytes.ensures

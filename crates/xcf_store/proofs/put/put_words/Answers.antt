@@ -6,10 +6,10 @@ use Rattle.xcf_store.proofs.Words.{word_length}
 use Rattle.xcf_store.proofs.Items.{items_start, items_turn}
 use Rattle.xcf_store.proofs.put.put_words.Goals as goal
 
-pub loop-i-init : goal.loop-i-init
-loop-i-init c = items_start _ _ _ _ _
+pub loop-n-init : goal.loop-n-init
+loop-n-init c = items_start _ _ _ _ _
 
-pub loop-i-preserved : goal.loop-i-preserved
-loop-i-preserved c =
-    items_turn c.loop-i.invariant c.loop-i-test.true refl
+pub loop-n-preserved : goal.loop-n-preserved
+loop-n-preserved c =
+    items_turn c.loop-n.invariant c.loop-n-test.true refl
     (within_more 4 (rw word_length (omega arith)) (put_within c.put_word-next.ensures))
