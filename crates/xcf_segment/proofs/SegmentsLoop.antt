@@ -1,99 +1,92 @@
--- A segment that was read, and the two loops over the segments of a stream. At the head of each, what is left of the stream
--- from `at` on gives, with what was done, the whole; one turn is one use of `encode_cons`.
+-- The two loops over the segments of a stream. At the head of each, the bytes of the segments that are left are, with what was
+-- done, the whole; and each of those segments has a byte, and no more bytes than the stream.
+--     size_start, store_start    at the stream's start all segments are left
+--     size_turn, store_turn      a turn
 -- Assumes nothing.
-use mathlib.Core.Path.{◌≡◌, refl, sym, ap, ◌∙◌}
-use mathlib.Core.List.{List, [], ◌++◌}
-use mathlib.Core.Bool.{true, false}
+use mathlib.Core.Path.{◌≡◌, refl, ap, ◌∙◌}
+use mathlib.Core.List.{List, [], ◌∷◌, ◌++◌, flat_map}
 use Prim.Native.Nat.{ℕ, ◌+◌, ◌≤◌, ◌<◌}
-use native.Mathlib.Nat.{add-zero}
 use native.Mathlib.Omega.{arith}
-use borrow.Author.Tests.{leb-true}
-use lib.ListN.{length, get_or, take, drop, length-append, length-drop, drop_of_length-le}
-use lib.Seq.{sets, get_or-drop, drop-drop}
-use lib.Dec.{leb}
-use Rattle.xcf_laws.proofs.Cases.{by_cases}
-use Rattle.xcf_segment.specs.Segment.{equal_bytes, copied_bytes, run_of, copy_of, size_of, first_segment, segment_bytes, encode_stream}
-use Rattle.xcf_segment.specs.Parts.{SegmentAt, segment_read}
+use lib.ListN.{length, length-append}
+use lib.Seq.{sets}
+use Rattle.std.specs.List.{All}
+use Rattle.std.proofs.lemmas.List.Elements.{All-nil, All-cons, All-head, All-same, All-rest}
+use Rattle.xcf_laws.proofs.FlatMaps.{flat_map-cons}
+use Rattle.xcf_segment.specs.Segment.{Segment, size_of, first_segment, segments, segment_bytes, encode_stream}
 use Rattle.xcf_store.specs.Put.{Put}
-use Rattle.xcf_segment.specs.declared.segment.SegmentRead.{SegmentRead}
-use Rattle.xcf_segment.proofs.Segments.{copied_some, encode_nil, encode_cons}
-use Rattle.xcf_segment.proofs.SegmentBytes.{taken_length}
+use Rattle.xcf_segment.proofs.Segments.{first_some, first_inside, segments_nil, segments_cons, rest_shorter, by_length}
 use Rattle.xcf_store.proofs.Stores.{sets_append, put_length}
 
-module _ (stream : List ℕ) (at : ℕ) (n : ℕ) (i : at + n ≤ length stream) where
-  -- three equal bytes start here: a run of them all
-  pub run_at : leb 3 (equal_bytes (drop at stream)) ≡ true → n ≡ equal_bytes (drop at stream) → SegmentAt stream at (record { run = true; count = n })
-  unfolding first_segment
-  run_at t e = record {
-    segment = rw (t, e, get_or-drop, add-zero);
-    some = omega (arith, leb-true 3 (equal_bytes (drop at stream)) t);
-    inside = i;
-  }
+-- a segment with a byte, and with at most n
+pub record Within (n : ℕ) (s : Segment) : Type 0 where
+  pub some : 0 < size_of s
+  pub short : size_of s ≤ n
 
-  -- otherwise a copy
-  pub copy_at : at < length stream → leb 3 (equal_bytes (drop at stream)) ≡ false → n ≡ copied_bytes (drop at stream) → SegmentAt stream at (record { run = false; count = n })
-  unfolding first_segment
-  copy_at h t e = record {
-    segment = rw (t, e);
-    some = omega (arith, copied_some (drop at stream) (rw length-drop (omega arith)) t);
-    inside = i;
-  }
+abbrev AllWithin : List ℕ → Type 0
+AllWithin xs = (n : ℕ) → length xs ≤ n → All (Within n) (segments xs)
 
--- a segment read is a run or a copy
-pub read_run : (stream : List ℕ) (at : ℕ) (r : SegmentRead) → r.run ≡ true → segment_read stream at r ≡ run_of r.count (get_or stream at 0)
-read_run stream at r e = rw e
-
-pub read_copy : (stream : List ℕ) (at : ℕ) (r : SegmentRead) → r.run ≡ false → segment_read stream at r ≡ copy_of (take r.count (drop at stream))
-read_copy stream at r e = rw e
-
--- a segment read has the size that was read
-read_size : (stream : List ℕ) (at : ℕ) (r : SegmentRead) → at + r.count ≤ length stream → size_of (segment_read stream at r) ≡ r.count
-read_size stream at r i = by_cases (λ s. size_of s ≡ r.count) r.run _ _ (λ _. refl) (λ _. taken_length r.count at stream i)
-
--- the encoding of what is left: the segment read, and what is left behind it
-turn : {stream : List ℕ} {at : ℕ} {r : SegmentRead} → SegmentAt stream at r → encode_stream (drop at stream) ≡ segment_bytes (segment_read stream at r) ++ encode_stream (drop (at + r.count) stream)
-turn {stream} {at} {r} s =
-    encode_cons (drop at stream) (rw length-drop (omega (arith, s.some, s.inside)))
-    ∙ rw (sym s.segment, read_size stream at r s.inside, drop-drop)
+within_step : (xs : List ℕ) → ((ys : List ℕ) → length ys < length xs → AllWithin ys) → AllWithin xs
+within_step [] ih n h = All-same (Within n) (segments []) [] segments_nil (All-nil (Within n))
+within_step (x ∷ xs) ih n h =
+    let some : 0 < length (x ∷ xs) = omega arith in
+    let less = rest_shorter (x ∷ xs) some in
+    let whole : Within n (first_segment (x ∷ xs)) = record { some = first_some (x ∷ xs) some; short = omega (arith, first_inside (x ∷ xs)) } in
+    All-same (Within n) (segments (x ∷ xs)) _ (segments_cons (x ∷ xs) some) (All-cons (Within n) _ _ whole (ih _ less n (omega arith)))
 
 -- the size so far
-pub record SizeLeft (stream : List ℕ) (at size : ℕ) : Type 0 where
-  pub inside : at ≤ length stream
-  pub whole : size + length (encode_stream (drop at stream)) ≡ length (encode_stream stream)
+pub record SizeLeft (stream : List ℕ) (left : List Segment) (size : ℕ) : Type 0 where
+  pub within : All (Within (length stream)) left
+  pub whole : size + length (flat_map segment_bytes left) ≡ length (encode_stream stream)
 
-pub size_turn : {stream : List ℕ} {at size : ℕ} {r : SegmentRead} → SizeLeft stream at size → SegmentAt stream at r → (n : ℕ) → n ≡ length (segment_bytes (segment_read stream at r)) → SizeLeft stream (at + r.count) (size + n)
-size_turn {stream} {at} {size} {r} l s n e = record {
-  inside = s.inside;
-  whole = omega (arith, l.whole, e, ap length (turn s), length-append (segment_bytes (segment_read stream at r)) (encode_stream (drop (at + r.count) stream)));
+pub size_start : (stream : List ℕ) (left : List Segment) → left ≡ segments stream → SizeLeft stream left 0
+unfolding encode_stream
+size_start stream left e = record {
+  within = rw e (by_length AllWithin within_step stream (length stream) (omega arith));
+  whole = rw e (omega arith);
 }
 
--- at the end nothing is left
-end_nil : (stream : List ℕ) (at : ℕ) → length stream ≤ at → encode_stream (drop at stream) ≡ []
-end_nil stream at h = rw (drop_of_length-le stream h) encode_nil
+module _ {stream : List ℕ} {left : List Segment} {size : ℕ} (l : SizeLeft stream left size) (s : Segment) (rest : List Segment) (e : left ≡ s ∷ rest) where
+  turn : flat_map segment_bytes left ≡ segment_bytes s ++ flat_map segment_bytes rest
+  turn = ap (flat_map segment_bytes) e ∙ flat_map-cons segment_bytes s rest
 
-pub size_whole : {stream : List ℕ} {at size : ℕ} → SizeLeft stream at size → length stream ≤ at → size ≡ length (encode_stream stream)
-size_whole {stream} {at} l h = omega (arith, l.whole, ap length (end_nil stream at h))
+  pub this_within : Within (length stream) s
+  this_within = All-head (Within (length stream)) s rest (rw e at l.within)
+
+  pub size_turn : (n : ℕ) → n ≡ length (segment_bytes s) → SizeLeft stream rest (size + n)
+  size_turn n f = record {
+    within = All-rest (Within (length stream)) s rest left e l.within;
+    whole = omega (arith, l.whole, f, ap length turn, length-append (segment_bytes s) (flat_map segment_bytes rest));
+  }
+
+pub size_whole : {stream : List ℕ} {left : List Segment} {size : ℕ} → SizeLeft stream left size → left ≡ [] → size ≡ length (encode_stream stream)
+unfolding flat_map
+size_whole l e = let w = rw e at l.whole in omega (arith, w)
 
 -- the output so far
-pub record StoreLeft (stream start : List ℕ) (at to : ℕ) (output : List ℕ) : Type 0 where
-  pub sizes : SizeLeft stream at to
+pub record StoreLeft (stream start : List ℕ) (left : List Segment) (to : ℕ) (output : List ℕ) : Type 0 where
+  pub sizes : SizeLeft stream left to
   pub same : length output ≡ length start
-  pub whole : sets output to (encode_stream (drop at stream)) ≡ sets start 0 (encode_stream stream)
+  pub whole : sets output to (flat_map segment_bytes left) ≡ sets start 0 (encode_stream stream)
 
-module _ {stream start : List ℕ} {at to : ℕ} {output : List ℕ} {r : SegmentRead} (l : StoreLeft stream start at to output) (s : SegmentAt stream at r) where
-  pub store_turn : {to' : ℕ} {output' : List ℕ} → Put output to (segment_bytes (segment_read stream at r)) to' output' → StoreLeft stream start (at + r.count) to' output'
+pub store_start : (stream : List ℕ) (left : List Segment) → left ≡ segments stream → (output : List ℕ) → StoreLeft stream output left 0 output
+unfolding encode_stream
+store_start stream left e output = record { sizes = size_start stream left e; same = refl; whole = rw e refl }
+
+module _ {stream start : List ℕ} {left : List Segment} {to : ℕ} {output : List ℕ} (l : StoreLeft stream start left to output) (s : Segment) (rest : List Segment) (e : left ≡ s ∷ rest) where
+  pub store_turn : {to' : ℕ} {output' : List ℕ} → Put output to (segment_bytes s) to' output' → StoreLeft stream start rest to' output'
   store_turn p = record {
-    sizes = rw p.behind (size_turn l.sizes s _ refl);
+    sizes = rw p.behind (size_turn l.sizes s rest e _ refl);
     same = put_length p ∙ l.same;
-    whole = rw (p.behind, p.output, ← sets_append output to (segment_bytes (segment_read stream at r)), ← turn s) l.whole;
+    whole = rw (p.behind, p.output, ← sets_append output to (segment_bytes s), ← turn l.sizes s rest e) l.whole;
   }
 
   -- what is left fits, so this segment does
-  pub store_room : length (encode_stream stream) ≤ length start → to + length (segment_bytes (segment_read stream at r)) ≤ length output
-  store_room h = omega (arith, (size_turn l.sizes s _ refl).whole, l.same)
+  pub store_room : length (encode_stream stream) ≤ length start → to + length (segment_bytes s) ≤ length output
+  store_room h = omega (arith, (size_turn l.sizes s rest e _ refl).whole, l.same)
 
-pub store_whole : {stream start : List ℕ} {at to : ℕ} {output : List ℕ} → StoreLeft stream start at to output → length stream ≤ at → Put start 0 (encode_stream stream) to output
-store_whole {stream} {start} {at} {to} {output} l h = record {
-  behind = omega (arith, size_whole l.sizes h);
-  output = rw (end_nil stream at h) at l.whole;
+pub store_whole : {stream start : List ℕ} {left : List Segment} {to : ℕ} {output : List ℕ} → StoreLeft stream start left to output → left ≡ [] → Put start 0 (encode_stream stream) to output
+unfolding flat_map
+store_whole l e = record {
+  behind = omega (arith, size_whole l.sizes e);
+  output = rw e at l.whole;
 }
