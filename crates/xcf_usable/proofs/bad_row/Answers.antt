@@ -5,13 +5,14 @@ use Rattle.xcf_usable.proofs.bad_row.Goals as goal
 pub loop-k-init : goal.loop-k-init
 loop-k-init c = left_first _ _ _ _ c.none-seen.ensures
 
-pub loop-k-preserved : goal.loop-k-preserved
-loop-k-preserved c =
-    left_next c.loop-k.invariant c.loop-k-test.true c.usable.ensures c.if-usable.true c.see-seen.ensures
+pub returns-then-not-usable : goal.returns-then-not-usable
+returns-then-not-usable c = left_bad c.loop-k.invariant c.loop-k-test.true c.usable.ensures c.if-not-usable.true
 
-pub returns-else-usable : goal.returns-else-usable
-returns-else-usable c =
-    left_bad c.loop-k.invariant c.loop-k-test.true c.usable.ensures c.if-usable.false
+pub see-seen-requires : goal.see-seen-requires
+see-seen-requires c = (c.loop-k-test.true, c.loop-k.invariant.seen)
+
+pub loop-k-preserved : goal.loop-k-preserved
+loop-k-preserved c = left_next c.loop-k.invariant c.loop-k-test.true c.usable.ensures c.if-not-usable.false c.see-seen.ensures
 
 pub returns : goal.returns
 returns c = left_over c.loop-k.invariant c.loop-k-test.false
