@@ -4,3 +4,4 @@ pub mod Pointer
 pub mod Width
 pub mod Rising
 pub mod Parts
+pub mod Output

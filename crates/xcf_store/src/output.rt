@@ -1,0 +1,50 @@
+// An output that is written forward.
+ghost use Rattle.std.specs.Prelude.{◌≡◌, ◌+◌, ◌*◌, ◌≤◌, length};
+ghost use Rattle.xcf_store.specs.Output.{Stores};
+ghost use Rattle.xcf_store.specs.Word.{word_bytes, words, when};
+
+use crate::put::{put_bytes, put_word, put_words};
+
+// Lent bytes, and the place that the next ones go to.
+#[derive(Drop)]
+pub struct Output<'a> {
+    pub bytes: &'a mut [u8],
+    pub at: usize,
+}
+
+impl<'a> Output<'a> {
+    pub fn word(&mut self, n: u32)
+        requires { self.old.at + 4 ≤ length self.old.bytes.now }
+        ensures stores { Stores self.old (word_bytes n) self.new }
+        ensures same { self.new.bytes.ghost_name ≡ self.old.bytes.ghost_name }
+    {
+        self.at = put_word(self.bytes, self.at, n);
+    }
+
+    pub fn words(&mut self, numbers: &[u32])
+        requires { self.old.at + 4 * length numbers.now ≤ length self.old.bytes.now }
+        ensures stores { Stores self.old (words numbers.now) self.new }
+        ensures same { self.new.bytes.ghost_name ≡ self.old.bytes.ghost_name }
+    {
+        self.at = put_words(self.bytes, self.at, numbers);
+    }
+
+    // The words, where the test holds.
+    pub fn words_when(&mut self, test: bool, numbers: &[u32])
+        requires { self.old.at + length (words (when test numbers.now)) ≤ length self.old.bytes.now }
+        ensures stores { Stores self.old (words (when test numbers.now)) self.new }
+        ensures same { self.new.bytes.ghost_name ≡ self.old.bytes.ghost_name }
+    {
+        if test {
+            self.words(numbers);
+        }
+    }
+
+    pub fn bytes(&mut self, content: &[u8])
+        requires { self.old.at + length content.now ≤ length self.old.bytes.now }
+        ensures stores { Stores self.old content.now self.new }
+        ensures same { self.new.bytes.ghost_name ≡ self.old.bytes.ghost_name }
+    {
+        self.at = put_bytes(self.bytes, self.at, content);
+    }
+}
