@@ -1,6 +1,6 @@
 -- Six parts one behind the other, and what each leaves is room for the others: `list_words`.
 use Prim.Native.Nat.{ℕ, ◌+◌, ◌≤◌}
-use mathlib.Core.Path.{◌≡◌}
+use mathlib.Core.Path.{◌≡◌, ◌∙◌}
 use mathlib.Core.List.{List, [], ◌∷◌}
 use mathlib.Core.Bool.{Bool}
 use native.Mathlib.Omega.{arith}
@@ -15,9 +15,9 @@ use Rattle.xcf_store.specs.Word.{words, when}
 use Rattle.xcf_store.specs.Put.{Put}
 use Rattle.xcf_store.proofs.Words.{words_length}
 use Rattle.xcf_structure.specs.Structure.{list_bytes, drawable_properties}
-use Rattle.xcf_structure.proofs.Lists.{end_on, layer_on, apply_on, shown_on, active_on, selection_on, list_words}
+use Rattle.xcf_structure.proofs.Lists.{end_on, layer_on, apply_on, shown_on, active_on, selection_on, list_words, active_of}
 use Rattle.xcf_structure.proofs.PartsStored.{PartsLeft, parts_first, parts_next}
-use Rattle.xcf_structure.proofs.put_list.Goals as goal
+use Rattle.xcf_structure.proofs.Structure.put_list.Goals as goal
 
 -- what is left of the list, before its first part and behind each
 abbrev Left : List ℕ → ℕ → Row → Bool → List ℕ → ℕ → List ℕ → Type 0
@@ -54,61 +54,61 @@ module _ {old : List ℕ} {to : ℕ} (row : Row) (masked : Bool) where
 pub put_when-selection-requires : goal.put_when-selection-requires
 put_when-selection-requires c =
     let a = c.args in
-    let selection = selection_left a.row a.masked c.requires in
+    let selection = selection_left a.self.now.row a.self.now.masked c.requires in
     rw c.flag_set.ensures (omega (arith, rw length-append at selection.fits.room))
 
 pub put_when-active-requires : goal.put_when-active-requires
 put_when-active-requires c =
     let a = c.args in
-    let selection = selection_left a.row a.masked c.requires in
-    let active = active_left a.row a.masked c.flag_set.ensures c.put_when-selection.ensures selection in
-    rw (c.active_type.ensures, c.flag_set-2.ensures) (omega (arith, rw length-append at active.fits.room))
+    let selection = selection_left a.self.now.row a.self.now.masked c.requires in
+    let active = active_left a.self.now.row a.self.now.masked c.flag_set.ensures c.put_when-selection.ensures selection in
+    rw (c.active_type.ensures, active_of c.from.ensures, c.flag_set-2.ensures) (omega (arith, rw length-append at active.fits.room))
 
 pub put_words-visible-requires : goal.put_words-visible-requires
 put_words-visible-requires c =
     let a = c.args in
-    let selection = selection_left a.row a.masked c.requires in
-    let active = active_left a.row a.masked c.flag_set.ensures c.put_when-selection.ensures selection in
-    let shown = shown_left a.row a.masked c.flag_set-2.ensures c.active_type.ensures c.put_when-active.ensures active in
+    let selection = selection_left a.self.now.row a.self.now.masked c.requires in
+    let active = active_left a.self.now.row a.self.now.masked c.flag_set.ensures c.put_when-selection.ensures selection in
+    let shown = shown_left a.self.now.row a.self.now.masked c.flag_set-2.ensures (c.active_type.ensures ∙ active_of c.from.ensures) c.put_when-active.ensures active in
     omega (arith, rw (length-append, words_length) at shown.fits.room)
 
 pub put_when-apply-requires : goal.put_when-apply-requires
 put_when-apply-requires c =
     let a = c.args in
-    let selection = selection_left a.row a.masked c.requires in
-    let active = active_left a.row a.masked c.flag_set.ensures c.put_when-selection.ensures selection in
-    let shown = shown_left a.row a.masked c.flag_set-2.ensures c.active_type.ensures c.put_when-active.ensures active in
-    let apply = apply_left a.row a.masked c.flag_of.ensures c.put_words-visible.ensures shown in
+    let selection = selection_left a.self.now.row a.self.now.masked c.requires in
+    let active = active_left a.self.now.row a.self.now.masked c.flag_set.ensures c.put_when-selection.ensures selection in
+    let shown = shown_left a.self.now.row a.self.now.masked c.flag_set-2.ensures (c.active_type.ensures ∙ active_of c.from.ensures) c.put_when-active.ensures active in
+    let apply = apply_left a.self.now.row a.self.now.masked c.flag_of.ensures c.put_words-visible.ensures shown in
     rw c.flag_of-2.ensures (omega (arith, rw length-append at apply.fits.room))
 
 pub put_when-layer-requires : goal.put_when-layer-requires
 put_when-layer-requires c =
     let a = c.args in
-    let selection = selection_left a.row a.masked c.requires in
-    let active = active_left a.row a.masked c.flag_set.ensures c.put_when-selection.ensures selection in
-    let shown = shown_left a.row a.masked c.flag_set-2.ensures c.active_type.ensures c.put_when-active.ensures active in
-    let apply = apply_left a.row a.masked c.flag_of.ensures c.put_words-visible.ensures shown in
-    let layer = layer_left a.row a.masked c.flag_of-2.ensures c.put_when-apply.ensures apply in
+    let selection = selection_left a.self.now.row a.self.now.masked c.requires in
+    let active = active_left a.self.now.row a.self.now.masked c.flag_set.ensures c.put_when-selection.ensures selection in
+    let shown = shown_left a.self.now.row a.self.now.masked c.flag_set-2.ensures (c.active_type.ensures ∙ active_of c.from.ensures) c.put_when-active.ensures active in
+    let apply = apply_left a.self.now.row a.self.now.masked c.flag_of.ensures c.put_words-visible.ensures shown in
+    let layer = layer_left a.self.now.row a.self.now.masked c.flag_of-2.ensures c.put_when-apply.ensures apply in
     omega (arith, rw length-append at layer.fits.room)
 
 pub put_words-requires : goal.put_words-requires
 put_words-requires c =
     let a = c.args in
-    let selection = selection_left a.row a.masked c.requires in
-    let active = active_left a.row a.masked c.flag_set.ensures c.put_when-selection.ensures selection in
-    let shown = shown_left a.row a.masked c.flag_set-2.ensures c.active_type.ensures c.put_when-active.ensures active in
-    let apply = apply_left a.row a.masked c.flag_of.ensures c.put_words-visible.ensures shown in
-    let layer = layer_left a.row a.masked c.flag_of-2.ensures c.put_when-apply.ensures apply in
-    let end = end_left a.row a.masked c.put_when-layer.ensures layer in
+    let selection = selection_left a.self.now.row a.self.now.masked c.requires in
+    let active = active_left a.self.now.row a.self.now.masked c.flag_set.ensures c.put_when-selection.ensures selection in
+    let shown = shown_left a.self.now.row a.self.now.masked c.flag_set-2.ensures (c.active_type.ensures ∙ active_of c.from.ensures) c.put_when-active.ensures active in
+    let apply = apply_left a.self.now.row a.self.now.masked c.flag_of.ensures c.put_words-visible.ensures shown in
+    let layer = layer_left a.self.now.row a.self.now.masked c.flag_of-2.ensures c.put_when-apply.ensures apply in
+    let end = end_left a.self.now.row a.self.now.masked c.put_when-layer.ensures layer in
     rw words_length at end.fits.room
 
 pub returns : goal.returns
 returns c =
     let a = c.args in
-    let selection = selection_left a.row a.masked c.requires in
-    let active = active_left a.row a.masked c.flag_set.ensures c.put_when-selection.ensures selection in
-    let shown = shown_left a.row a.masked c.flag_set-2.ensures c.active_type.ensures c.put_when-active.ensures active in
-    let apply = apply_left a.row a.masked c.flag_of.ensures c.put_words-visible.ensures shown in
-    let layer = layer_left a.row a.masked c.flag_of-2.ensures c.put_when-apply.ensures apply in
-    let end = end_left a.row a.masked c.put_when-layer.ensures layer in
+    let selection = selection_left a.self.now.row a.self.now.masked c.requires in
+    let active = active_left a.self.now.row a.self.now.masked c.flag_set.ensures c.put_when-selection.ensures selection in
+    let shown = shown_left a.self.now.row a.self.now.masked c.flag_set-2.ensures (c.active_type.ensures ∙ active_of c.from.ensures) c.put_when-active.ensures active in
+    let apply = apply_left a.self.now.row a.self.now.masked c.flag_of.ensures c.put_words-visible.ensures shown in
+    let layer = layer_left a.self.now.row a.self.now.masked c.flag_of-2.ensures c.put_when-apply.ensures apply in
+    let end = end_left a.self.now.row a.self.now.masked c.put_when-layer.ensures layer in
     end.whole _ _ c.put_words.ensures
