@@ -1,6 +1,6 @@
 -- `put_pointers` meets its contract: `PointersLeft` holds at the loop's head, and a place fits a word.
 use Rattle.xcf_image.proofs.Pointers.{pointers_first, pointers_room, pointers_next, pointers_end_room, pointers_whole}
-use Rattle.xcf_image.proofs.put_pointers.Goals as goal
+use Rattle.xcf_image.proofs.Image.put_pointers.Goals as goal
 
 pub loop-k-init : goal.loop-k-init
 loop-k-init c = pointers_first _ _ _ _ _ _

@@ -1,4 +1,4 @@
--- `put_image` meets its contract: its parts one behind the other, of which each leaves room for the others (`image_parts`).
+-- `put` meets its contract: its parts one behind the other, of which each leaves room for the others (`image_parts`).
 use Prim.Native.Nat.{ℕ, ◌+◌, ◌≤◌}
 use mathlib.Core.List.{List, [], ◌∷◌, ◌++◌}
 use native.Mathlib.Omega.{arith}
@@ -16,7 +16,7 @@ use Rattle.xcf_image.specs.Image.{version_of, kind_places, image_of}
 use Rattle.xcf_image.specs.Parts.{rows_from}
 use Rattle.xcf_image.proofs.ImageLength.{tag_length, version_old_or_new}
 use Rattle.xcf_image.proofs.ImageParts.{channels_on, layers_on, end_on, compression_on, sides_on, tag_on, magic_on, image_parts}
-use Rattle.xcf_image.proofs.put_image.Goals as goal
+use Rattle.xcf_image.proofs.Image.put.Goals as goal
 
 -- what is left of the structure, before its first part and behind each
 abbrev Left : List ℕ → Canvas → List Row → List ℕ → (Canvas → ℕ → List ℕ → List ℕ → List ℕ) → ℕ → List ℕ → Type 0
@@ -50,44 +50,44 @@ module _ {old : List ℕ} (c : Canvas) (rs : List Row) (ps : List ℕ) (room : l
           channels_left p₅ = parts_next p₅ layers_left
 
 pub put_bytes-magic-requires : goal.put_bytes-magic-requires
-put_bytes-magic-requires c = omega (arith, (magic_left c.args.canvas (rows_from c.args.table.now c.args.n 0) c.args.places.now c.requires.places_in_bounds).fits.room)
+put_bytes-magic-requires c = omega (arith, (magic_left c.args.self.now.canvas (rows_from c.args.self.now.table.now c.args.self.now.used 0) c.args.places.now c.requires.places_in_bounds).fits.room)
 
 pub put_tag-tag-requires : goal.put_tag-tag-requires
 put_tag-tag-requires c =
-    let known = tag_length _ (version_old_or_new (rows_from c.args.table.now c.args.n 0)) in
-    omega (arith, known, rw length-append at (tag_left c.args.canvas (rows_from c.args.table.now c.args.n 0) c.args.places.now c.requires.places_in_bounds c.put_bytes-magic.ensures).fits.room)
+    let known = tag_length _ (version_old_or_new (rows_from c.args.self.now.table.now c.args.self.now.used 0)) in
+    omega (arith, known, rw length-append at (tag_left c.args.self.now.canvas (rows_from c.args.self.now.table.now c.args.self.now.used 0) c.args.places.now c.requires.places_in_bounds c.put_bytes-magic.ensures).fits.room)
 
 pub put_words-compression-requires : goal.put_words-compression-requires
 put_words-compression-requires c =
-    let tag = rw c.new_mode.ensures at c.put_tag-tag.ensures in
-    let left = sides_left c.args.canvas (rows_from c.args.table.now c.args.n 0) c.args.places.now c.requires.places_in_bounds c.put_bytes-magic.ensures tag in
+    let tag = rw c.has_new_mode.ensures at c.put_tag-tag.ensures in
+    let left = sides_left c.args.self.now.canvas (rows_from c.args.self.now.table.now c.args.self.now.used 0) c.args.places.now c.requires.places_in_bounds c.put_bytes-magic.ensures tag in
     omega (arith, rw (length-append, words_length) at left.fits.room)
 
 pub bounds-output-compression : goal.bounds-output-compression
 bounds-output-compression c =
-    let tag = rw c.new_mode.ensures at c.put_tag-tag.ensures in
-    let left = compression_left c.args.canvas (rows_from c.args.table.now c.args.n 0) c.args.places.now c.requires.places_in_bounds c.put_bytes-magic.ensures tag c.put_words-compression.ensures in
+    let tag = rw c.has_new_mode.ensures at c.put_tag-tag.ensures in
+    let left = compression_left c.args.self.now.canvas (rows_from c.args.self.now.table.now c.args.self.now.used 0) c.args.places.now c.requires.places_in_bounds c.put_bytes-magic.ensures tag c.put_words-compression.ensures in
     omega (arith, left.fits.room)
 
 pub overflow_add-compression : goal.overflow_add-compression
 overflow_add-compression c =
-    let tag = rw c.new_mode.ensures at c.put_tag-tag.ensures in
-    let left = compression_left c.args.canvas (rows_from c.args.table.now c.args.n 0) c.args.places.now c.requires.places_in_bounds c.put_bytes-magic.ensures tag c.put_words-compression.ensures in
+    let tag = rw c.has_new_mode.ensures at c.put_tag-tag.ensures in
+    let left = compression_left c.args.self.now.canvas (rows_from c.args.self.now.table.now c.args.self.now.used 0) c.args.places.now c.requires.places_in_bounds c.put_bytes-magic.ensures tag c.put_words-compression.ensures in
     omega (arith, left.fits.room)
 
 pub put_words-list-requires : goal.put_words-list-requires
 put_words-list-requires c =
-    let tag = rw c.new_mode.ensures at c.put_tag-tag.ensures in
-    let left = end_left c.args.canvas (rows_from c.args.table.now c.args.n 0) c.args.places.now c.requires.places_in_bounds c.put_bytes-magic.ensures tag c.put_words-compression.ensures in
+    let tag = rw c.has_new_mode.ensures at c.put_tag-tag.ensures in
+    let left = end_left c.args.self.now.canvas (rows_from c.args.self.now.table.now c.args.self.now.used 0) c.args.places.now c.requires.places_in_bounds c.put_bytes-magic.ensures tag c.put_words-compression.ensures in
     omega (arith, rw (length-append, words_length) at left.fits.room)
 
 pub put_pointers-layers-requires-clause-places_in_bounds : goal.put_pointers-layers-requires-clause-places_in_bounds
 put_pointers-layers-requires-clause-places_in_bounds c =
-    let tag = rw c.new_mode.ensures at c.put_tag-tag.ensures in
+    let tag = rw c.has_new_mode.ensures at c.put_tag-tag.ensures in
     let left =
     layers_left
-    c.args.canvas
-    (rows_from c.args.table.now c.args.n 0)
+    c.args.self.now.canvas
+    (rows_from c.args.self.now.table.now c.args.self.now.used 0)
     c.args.places.now
     c.requires.places_in_bounds
     c.put_bytes-magic.ensures
@@ -98,10 +98,10 @@ put_pointers-layers-requires-clause-places_in_bounds c =
 
 pub put_pointers-requires-clause-places_in_bounds : goal.put_pointers-requires-clause-places_in_bounds
 put_pointers-requires-clause-places_in_bounds c =
-    let tag = rw c.new_mode.ensures at c.put_tag-tag.ensures in
+    let tag = rw c.has_new_mode.ensures at c.put_tag-tag.ensures in
     (channels_left
-    c.args.canvas
-    (rows_from c.args.table.now c.args.n 0)
+    c.args.self.now.canvas
+    (rows_from c.args.self.now.table.now c.args.self.now.used 0)
     c.args.places.now
     c.requires.places_in_bounds
     c.put_bytes-magic.ensures
@@ -112,10 +112,10 @@ put_pointers-requires-clause-places_in_bounds c =
 
 pub returns : goal.returns
 returns c =
-    let tag = rw c.new_mode.ensures at c.put_tag-tag.ensures in
+    let tag = rw c.has_new_mode.ensures at c.put_tag-tag.ensures in
     (channels_left
-    c.args.canvas
-    (rows_from c.args.table.now c.args.n 0)
+    c.args.self.now.canvas
+    (rows_from c.args.self.now.table.now c.args.self.now.used 0)
     c.args.places.now
     c.requires.places_in_bounds
     c.put_bytes-magic.ensures
