@@ -9,7 +9,7 @@ use mir.Val.{bool_byte}
 use native.Mathlib.Numerals.{add-one}
 use native.Mathlib.Omega.{arith}
 use Rattle.xcf_table.specs.declared.Row.{Row}
-use Rattle.xcf_table.specs.Table.{row_at}
+use Rattle.xcf_table.specs.Table.{unused_row, row_at}
 use Rattle.xcf_usable.specs.declared.seen.Seen.{Seen}
 use Rattle.xcf_usable.specs.Usable.{is_layer, is_channel, is_unused, is_active_layer, is_active_channel, is_selection, count_before, row_before, seen_at}
 
@@ -17,6 +17,14 @@ pub before_next : (test : Row → Bool) (table : List ℕ) (k : ℕ)
     → count_before test table (k + 1) ≡ count_before test table k + cond (test (row_at table k)) 1 0
 unfolding count_before
 before_next test table k = rw add-one
+
+-- nothing is seen before row 0
+pub seen_none : (table : List ℕ) (s : Seen)
+    → (s.layers ≡ 0) × ((s.channels ≡ 0) × ((s.unused ≡ 0) × ((s.current ≡ 0) × ((s.active ≡ 0) × ((s.selections ≡ 0) × (s.row ≡ unused_row))))))
+    → s ≡ seen_at table 0
+unfolding seen_at count_before row_before
+seen_none table s (layers, (channels, (unused, (current, (active, (selections, row)))))) =
+    rw (layers, channels, unused, current, active, selections, row)
 
 -- what is seen behind a row
 abbrev seeing : Seen → Row → Seen

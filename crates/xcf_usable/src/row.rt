@@ -1,6 +1,6 @@
 // Whether a row of the table is usable.
 ghost use Rattle.std.specs.Prelude.{◌≡◌, ◌<◌};
-ghost use Rattle.xcf_table.specs.Table.{row_numbers, row_at};
+ghost use Rattle.xcf_table.specs.Table.{row_at};
 ghost use Rattle.xcf_usable.specs.Usable.{masked, all_zero, kind_ok, usable_row};
 
 use crate::kind::{drawable_ok, layer_ok, name_ok};
@@ -22,15 +22,6 @@ fn all_zero(numbers: &[u32]) -> bool
     ensures { result ≡ all_zero numbers.now }
 {
     numbers.iter().all(|n| *n == 0)
-}
-
-// Whether row k is zero, where the table has it.
-fn zero_row(table: &[u32], k: u32) -> bool
-    ensures { result ≡ all_zero (row_numbers (row_at table.now k)) }
-{
-    let start = ROW_SIZE * (k as usize);
-    let end = start + ROW_SIZE;
-    table.len() < end || all_zero(&table[start..end])
 }
 
 // Whether a used row is as its kind asks, behind the rows seen.
@@ -62,7 +53,8 @@ pub(crate) fn usable(canvas: Canvas, names: &[u8], table: &[u32], k: u32, seen: 
 {
     let row = row_at(table, k);
     if row.kind == kind::UNUSED {
-        return zero_row(table, k);
+        let numbers: [u32; ROW_SIZE] = row.into();
+        return all_zero(&numbers);
     }
     used_row(canvas, names, k, seen, row, masked(table, k))
 }

@@ -5,10 +5,11 @@ ghost use Rattle.xcf_usable.specs.Usable.{is_active_layer, is_active_channel, is
 
 use xcf_numbers::flag::flag_set;
 use xcf_numbers::{flag, kind};
-use xcf_table::{Row, row_at, unused_row};
+use xcf_table::{Row, row_at};
 
 // How many layers, channels and unused rows, active layers, active channels or masks, and selections; and the last row.
-#[derive(Clone, Copy)]
+// By default what comes before row 0.
+#[derive(Clone, Copy, Default)]
 pub struct Seen {
     pub layers: u32,
     pub channels: u32,
@@ -17,21 +18,6 @@ pub struct Seen {
     pub active: u32,
     pub selections: u32,
     pub row: Row,
-}
-
-// Before row 0.
-pub(crate) fn none(table: &[u32]) -> Seen
-    ensures { result ≡ seen_at table.now 0 }
-{
-    Seen {
-        layers: 0,
-        channels: 0,
-        unused: 0,
-        current: 0,
-        active: 0,
-        selections: 0,
-        row: unused_row(),
-    }
 }
 
 pub(crate) fn is_active_layer(row: Row) -> bool
