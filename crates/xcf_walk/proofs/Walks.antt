@@ -63,6 +63,14 @@ module _ {A : Type 0} (f : List ℕ) (at : ℕ) where
   unfolding run file_length
   run_length k = refl
 
+-- the place, by itself
+pub ran_here : (f : List ℕ) (at : ℕ) → run here f at ≡ got at at
+unfolding run here
+ran_here f at = refl
+
+-- how a do block goes on, step by step
+pub ruleset steps = (run_bind, run_done, ran_here)
+
 -- what a step gives where it is taken
 module _ (f : List ℕ) (at : ℕ) {q : ℕ} where
   pub got_done : {A : Type 0} {a b : A} → got b q ≡ run (done a) f at → (q ≡ at) × (b ≡ a)
