@@ -15,7 +15,6 @@ use lib.Seq.{get_or-take, take-take, take-nil}
 use lib.Dec.{ltb, leb, eqb}
 use Rattle.xcf_numbers.specs.Limit.{window_limit}
 use Rattle.xcf_operation.specs.Operation.{Head, run_head, copy_head, cut, head_at, head_of, Operation, gives, short, over, unless_fails, operation_at, operation_of}
-use Rattle.xcf_operation.specs.Parts.{head_for}
 use Rattle.xcf_stream.specs.Stream.{Stream, adds, stream_from, stream_within, stream_at}
 use Rattle.xcf_stream.specs.Streams.{Streams, streams_at}
 use Rattle.xcf_tile.specs.Tile.{Tile, plain_tile, encoded_tile, tile_in, tile_of}
@@ -28,7 +27,7 @@ HeadBefore m cut = ⊥
 HeadBefore m (run_head count body) = body ≤ m
 HeadBefore m (copy_head count body) = body ≤ m
 
-body_before : (m : ℕ) (run : Bool) (count body : ℕ) → HeadBefore m (head_for run count body) → body ≤ m
+body_before : (m : ℕ) (run : Bool) (count body : ℕ) → HeadBefore m (cond run (run_head count body) (copy_head count body)) → body ≤ m
 body_before m true count body h = h
 body_before m false count body h = h
 
