@@ -1,7 +1,10 @@
--- The invariant is `SizeLeft`; a turn is `size_turn` at the segment that came.
+-- The invariant is `SizeLeft` of the segments' bytes; a turn is `size_turn` at the segment that came.
+use Rattle.xcf_numbers.specs.Limit.{stream_limit}
 use Rattle.xcf_segment.specs.Parts.{segments_left}
-use Rattle.xcf_segment.proofs.SegmentsLoop.{SizeLeft}
+use Rattle.xcf_segment.specs.Segment.{segments, segment_bytes}
+use Rattle.xcf_segment.proofs.PiecesLoop.{SizeLeft}
+use Rattle.xcf_segment.proofs.SegmentsWithin.{Within}
 use Rattle.xcf_segment.proofs.measure.encoded_size.Given as goal
 
 abbrev pub invariant-loop-segment : goal.invariant-loop-segment
-invariant-loop-segment l = SizeLeft l.stream (segments_left l.segment-iterator) l.size
+invariant-loop-segment l = SizeLeft segment_bytes (Within stream_limit) (segments l.stream) (segments_left l.segment-iterator) l.size
