@@ -4,15 +4,16 @@
 -- induction over the fuel a good stream, over the streams a good tile. No stream ends before it starts (`stream_ends`).
 -- Assumes nothing.
 use mathlib.Core.Path.{◌≡◌, refl, sym, ap, subst, ◌∙◌}
-use mathlib.Core.List.{List, [], ◌∷◌}
+use mathlib.Core.List.{List}
 use mathlib.Core.Bool.{Bool, true, false, cond}
 use Prim.Native.Nat.{ℕ, zero, suc, ◌+◌, ◌*◌, ◌-◌, ◌≤◌, ◌<◌}
-use native.Mathlib.Nat.{le_trans, zero-add, suc-add}
+use native.Mathlib.Nat.{le_trans}
 use native.Mathlib.Omega.{arith}
 use borrow.Author.Tests.{ltb-true, ltb-false, lt-leb, le-ltb, eqb-true, eqb-false, le-leb, leb-true}
 use lib.ListN.{length, get_or, take, drop, replicate, length-take}
-use lib.Seq.{get_or-take, take-take, take-nil}
+use lib.Seq.{get_or-take, take-take}
 use lib.Dec.{ltb, leb, eqb}
+use Rattle.std.proofs.lemmas.List.{drop-take}
 use Rattle.xcf_numbers.specs.Limit.{window_limit}
 use Rattle.xcf_operation.specs.Operation.{Head, run_head, copy_head, cut, head_at, head_of, Operation, gives, short, over, unless_fails, operation_at, operation_of}
 use Rattle.xcf_stream.specs.Stream.{Stream, adds, stream_from, stream_within, stream_at}
@@ -69,20 +70,15 @@ streams_ends (suc count) ws at n =
     let r = streams_ends count ws (stream_at ws at n).at n in
     by_cases (AllEnd ws at) (eqb (stream_at ws at n).mark 0) _ _ (λ _. (le_trans s.0 r.0, λ i. r.1 (s.1 i))) (λ _. s)
 
-take_drop : (from count : ℕ) (l : List ℕ) → take count (drop from l) ≡ drop from (take (from + count) l)
-take_drop zero count l = rw zero-add
-take_drop (suc from) count [] = rw (take-nil, take-nil)
-take_drop (suc from) count (x ∷ l) = rw suc-add (take_drop from count l)
-
 module _ (ws vs : List ℕ) (m : ℕ) (same : take m ws ≡ take m vs) (long : m ≤ length vs) where
   byte_same : (i : ℕ) → i < m → get_or vs i 0 ≡ get_or ws i 0
   byte_same i h = sym (get_or-take m vs i 0 h) ∙ ap (λ (l : List ℕ). get_or l i 0) (sym same) ∙ get_or-take m ws i 0 h
 
   copied_same : (from count : ℕ) → from + count ≤ m → take count (drop from vs) ≡ take count (drop from ws)
   copied_same from count h =
-      take_drop from count vs
+      sym (drop-take from count vs)
       ∙ ap (drop from) (sym (take-take (from + count) m vs h) ∙ ap (take (from + count)) (sym same) ∙ take-take (from + count) m ws h)
-      ∙ sym (take_drop from count ws)
+      ∙ drop-take from count ws
 
   abbrev HeadSame : ℕ → Head → Type 0
   HeadSame at h = HeadBefore m h → head_at vs at ≡ h
