@@ -1,0 +1,28 @@
+-- `put` meets its contract: what it stores is the drawable (`drawable_put`).
+use Prim.Native.Nat.{ℕ}
+use mathlib.Core.Path.{◌∙◌, ap}
+use mathlib.Core.Bool.{cond}
+use Rattle.xcf_drawable.proofs.DrawablePut.{structure_room, hierarchy_room, level_space, drawable_put}
+use Rattle.xcf_drawable.proofs.Drawing.put.Goals as goal
+
+pub put-requires : goal.put-requires
+put-requires c =
+    let a = c.args in
+    structure_room a.self.now.structure.row a.self.now.structure.masked a.self.now.structure.name.now a.self.now.pixels.now c.requires.space _ _
+
+pub put_words-requires : goal.put_words-requires
+put_words-requires c =
+    let a = c.args in
+    hierarchy_room a.self.now.structure.row a.self.now.structure.masked a.self.now.structure.name.now a.self.now.pixels.now c.requires.space c.mask_place-mask.result c.size.ensures.0 c.put.ensures
+
+pub put_level-requires : goal.put_level-requires
+put_level-requires c =
+    let a = c.args in
+    level_space a.self.now.structure.row a.self.now.structure.masked a.self.now.structure.name.now a.self.now.pixels.now c.requires.space c.mask_place-mask.result c.size.ensures.0 c.put.ensures c.put_words.ensures
+
+pub returns : goal.returns
+returns c =
+    let a = c.args in
+    drawable_put a.self.now.structure.row a.self.now.structure.masked a.self.now.structure.name.now a.self.now.pixels.now c.requires.space c.mask_place-mask.result
+    c.size.ensures.0 c.put.ensures
+    c.put_words.ensures (c.mask_place-mask.ensures ∙ ap (λ (e : ℕ). cond a.self.now.structure.masked e 0) c.requires.end_value) c.put_level.ensures
