@@ -6,7 +6,6 @@ pub mod fault;
 pub mod flag;
 pub mod kind;
 pub mod limit;
-pub mod mark;
 pub mod precision;
 pub mod property_type;
 pub mod reason;
