@@ -116,10 +116,7 @@ pub fn content_of(file: &[u8], place: usize, n: usize) -> Content
 pub fn is_colour_map(list: ListKind, kind: u32) -> bool
     ensures { result ≡ is_colour_map (list_number list) kind }
 {
-    match list {
-        ListKind::Image => kind == property_type::COLOUR_MAP,
-        _ => false,
-    }
+    list == ListKind::Image && kind == property_type::COLOUR_MAP
 }
 
 // Whether a map of count colours may have a length word of n.
@@ -129,24 +126,21 @@ pub fn map_length_ok(count: u32, n: u32) -> bool
 {
     let colours = count as usize;
     let size = n as usize;
-    (size == 3 * colours + 4) | (size == colours + 4)
+    size == 3 * colours + 4 || size == colours + 4
 }
 
 #[tactic(auto, unfolding(crate::specs::Property::is_floating))]
 pub fn is_floating(list: ListKind, kind: u32) -> bool
     ensures { result ≡ is_floating (list_number list) kind }
 {
-    match list {
-        ListKind::Layer => kind == property_type::FLOATING,
-        _ => false,
-    }
+    list == ListKind::Layer && kind == property_type::FLOATING
 }
 
 #[tactic(auto, unfolding(crate::specs::Property::lacks_map))]
 pub fn lacks_map(kind: u32, p: Properties) -> bool
     ensures { result ≡ lacks_map kind p }
 {
-    (kind == property_type::END) & (p.unmapped == 1)
+    kind == property_type::END && p.unmapped == 1
 }
 
 // Whether a property of this type may have the content v.
