@@ -8,14 +8,15 @@ use native.Mathlib.Omega.{arith}
 use lib.ListN.{length}
 use lib.Seq.{take_all}
 use Rattle.std.specs.Prelude.{Result, Ok, Err}
+use Rattle.std.specs.Result.{IsErrAnd}
 use Rattle.xcf_store.specs.Word.{part}
 use Rattle.xcf_numbers.specs.declared.reason.Refusal.{Refusal}
 use Rattle.xcf_numbers.specs.declared.reason.Reason.{Reason}
 use Rattle.xcf_numbers.specs.Reason.{number_of}
 use Rattle.xcf_walk.specs.declared.cursor.Cursor.{Cursor}
-use Rattle.xcf_walk.specs.Walk.{got, Walk, done, ◌>>=◌, run, here, must}
+use Rattle.xcf_walk.specs.Walk.{got, Walk, done, ◌>>=◌, run, here, jump, must}
 use Rattle.xcf_walk.specs.Cursor.{WalksBy}
-use Rattle.xcf_walk.proofs.Walks.{run_bind, run_here, run_done}
+use Rattle.xcf_walk.proofs.Walks.{run_bind, run_here, run_done, ran_jump}
 
 -- a walk in two parts: the first gives a value, and the second goes on with it
 pub then : {X A Y B : Type 0} {v : X → A} {u : Y → B} {w : Walk A} (k : A → Walk B) {c d e : Cursor} {x : X} {r : Result Y Refusal}
@@ -25,10 +26,20 @@ then {w = w} k {c = c} first rest = record {
   file = rest.file ∙ first.file;
 }
 
+-- or is refused, and so is the whole
+pub stops : {X A Y B : Type 0} {v : X → A} {u : Y → B} {w : Walk A} (k : A → Walk B) {c d : Cursor} {e : Refusal} {r : Result Y Refusal}
+    → WalksBy v w c (Err e) d → IsErrAnd r (λ x. x ≡ e) → WalksBy u (w >>= k) c r d
+stops k {r = Ok x} first h = absurd h
+stops {w = w} k {c = c} {r = Err x} first h = record { gives = run_bind w k c.file.now c.at ∙ rw (first.gives, h) refl; file = first.file }
+
 module _ {Y B : Type 0} {u : Y → B} {c e : Cursor} {r : Result Y Refusal} where
   -- the place
   pub then_here : (k : ℕ → Walk B) → WalksBy u (k c.at) c r e → WalksBy u (here >>= k) c r e
   then_here k rest = record { gives = run_here c.file.now c.at k ∙ rest.gives; file = rest.file }
+
+  -- a jump
+  pub then_jump : (k : Unit {0} → Walk B) {d : Cursor} {p : ℕ} → d ≡ record { file = c.file; at = p } → WalksBy u (k tt) d r e → WalksBy u (jump p >>= k) c r e
+  then_jump k {d} {p} s rest = record { gives = run_bind (jump p) k c.file.now c.at ∙ rw ran_jump (rw s at rest.gives); file = rw s at rest.file }
 
   -- a test that holds
   pub then_held : (k : Unit {0} → Walk B) {t : Bool} (n p : ℕ) → t ≡ true → WalksBy u (k tt) c r e → WalksBy u (must t n p >>= k) c r e
