@@ -1,8 +1,8 @@
 -- Choices: what holds of both branches holds of the choice; one of two numbers is below the other or not, and equal to it or not; a
--- choice by the opposite test, and between two of the same.
+-- choice between two of the same.
 -- Assumes nothing.
 use mathlib.Core.Path.{◌≡◌, refl}
-use mathlib.Core.Bool.{Bool, true, false, cond, not}
+use mathlib.Core.Bool.{Bool, true, false, cond}
 use Prim.Native.Nat.{ℕ, ◌≤◌, ◌<◌}
 use mathlib.Core.Logic.{◌⊎◌, inl, inr, ⊎_elim}
 use borrow.Author.Tests.{leb-true, leb-false, eqb-true, eqb-false}
@@ -28,10 +28,6 @@ equal_unless a b h = go (eqb a b) refl
     go : (t : Bool) → eqb a b ≡ t → a ≡ b
     go true e = eqb-true a b e
     go false e = absurd (h (eqb-false a b e))
-
-pub cond_not : {A : Type 0} (b : Bool) (x y : A) → cond (not b) x y ≡ cond b y x
-cond_not true x y = refl
-cond_not false x y = refl
 
 pub cond_same : {A : Type 0} (b : Bool) (x : A) → cond b x x ≡ x
 cond_same true x = refl
