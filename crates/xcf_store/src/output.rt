@@ -1,5 +1,5 @@
 // An output that is written forward.
-ghost use Rattle.std.specs.Prelude.{◌≡◌, ◌+◌, ◌*◌, ◌≤◌, length};
+ghost use Rattle.std.specs.Prelude.{[], ◌∷◌, ◌≡◌, ◌+◌, ◌*◌, ◌≤◌, ◌<◌, length};
 ghost use Rattle.xcf_store.specs.Output.{Stores};
 ghost use Rattle.xcf_store.specs.Word.{word_bytes, words, when};
 
@@ -13,6 +13,15 @@ pub struct Output<'a> {
 }
 
 impl<'a> Output<'a> {
+    pub fn byte(&mut self, b: u8)
+        requires { self.old.at < length self.old.bytes.now }
+        ensures stores { Stores self.old (b ∷ []) self.new }
+        ensures same { self.new.bytes.ghost_name ≡ self.old.bytes.ghost_name }
+    {
+        self.bytes[self.at] = b;
+        self.at += 1;
+    }
+
     pub fn word(&mut self, n: u32)
         requires { self.old.at + 4 ≤ length self.old.bytes.now }
         ensures stores { Stores self.old (word_bytes n) self.new }

@@ -3,13 +3,14 @@
 
 ghost use Rattle.std.specs.Prelude.{◌≡◌, ◌+◌, ◌≤◌, length};
 ghost use Rattle.xcf_numbers.specs.Limit.{name_limit};
+ghost use Rattle.xcf_store.specs.Output.{Stores};
 ghost use Rattle.xcf_store.specs.Put.{Put};
 ghost use Rattle.xcf_structure.specs.Structure.{name_bytes, list_bytes, drawable_properties, structure_bytes, properties_limit, structure_limit};
 
 use xcf_numbers::flag::{flag_of, flag_set};
 use xcf_numbers::{flag, kind, property_type};
 use xcf_property::{ListKind, active_type};
-use xcf_store::put::{put_bytes, put_when, put_word, put_words};
+use xcf_store::output::Output;
 use xcf_table::Row;
 
 fn name_size(name: &[u8]) -> usize
@@ -22,17 +23,18 @@ fn name_size(name: &[u8]) -> usize
     name.len() + 5
 }
 
-fn put_name(output: &mut [u8], to: usize, name: &[u8]) -> usize
-    requires { (length name.now ≤ name_limit) × (to + length (name_bytes name.now) ≤ length output.old) }
-    ensures { Put output.old to (name_bytes name.now) result output.new }
+fn put_name(output: &mut Output<'_>, name: &[u8])
+    requires { (length name.now ≤ name_limit) × (output.old.at + length (name_bytes name.now) ≤ length output.old.bytes.now) }
+    ensures stores { Stores output.old (name_bytes name.now) output.new }
+    ensures same { output.new.bytes.ghost_name ≡ output.old.bytes.ghost_name }
 {
     if name.is_empty() {
-        return put_word(output, to, 0);
+        output.word(0);
+    } else {
+        output.word(name.len() as u32 + 1);
+        output.bytes(name);
+        output.byte(0);
     }
-    let start = put_word(output, to, name.len() as u32 + 1);
-    let end = put_bytes(output, start, name);
-    output[end] = 0;
-    end + 1
 }
 
 // A drawable's row, whether it has a mask, and its name.
@@ -66,44 +68,29 @@ impl Structure<'_> {
         8 + form + named + list + 4 + form
     }
 
-    fn put_list(&self, output: &mut [u8], to: usize) -> usize
-        requires { to + length (list_bytes (drawable_properties self.now.row self.now.masked)) ≤ length output.old }
-        ensures { Put output.old to (list_bytes (drawable_properties self.now.row self.now.masked)) result output.new }
+    fn put_list(&self, output: &mut Output<'_>)
+        requires { output.old.at + length (list_bytes (drawable_properties self.now.row self.now.masked)) ≤ length output.old.bytes.now }
+        ensures stores { Stores output.old (list_bytes (drawable_properties self.now.row self.now.masked)) output.new }
+        ensures same { output.new.bytes.ghost_name ≡ output.old.bytes.ghost_name }
     {
         let row = self.row;
-        let selection = put_when(
-            output,
-            to,
-            flag_set(row.flags, flag::SELECTION),
-            &[property_type::SELECTION, 0],
-        );
-        let active = put_when(
-            output,
-            selection,
-            flag_set(row.flags, flag::ACTIVE),
-            &[active_type(ListKind::from(row.kind)), 0],
-        );
-        let visible = put_words(
-            output,
-            active,
-            &[
-                property_type::OPACITY,
-                4,
-                row.opacity,
-                property_type::VISIBLE,
-                4,
-                flag_of(row.flags, flag::VISIBLE),
-            ],
-        );
-        let apply = put_when(
-            output,
-            visible,
+        let selection = flag_set(row.flags, flag::SELECTION);
+        output.words_when(selection, &[property_type::SELECTION, 0]);
+        let active = flag_set(row.flags, flag::ACTIVE);
+        output.words_when(active, &[active_type(ListKind::from(row.kind)), 0]);
+        output.words(&[
+            property_type::OPACITY,
+            4,
+            row.opacity,
+            property_type::VISIBLE,
+            4,
+            flag_of(row.flags, flag::VISIBLE),
+        ]);
+        output.words_when(
             self.masked,
             &[property_type::APPLY, 4, flag_of(row.flags, flag::APPLY)],
         );
-        let layer = put_when(
-            output,
-            apply,
+        output.words_when(
             row.kind == kind::LAYER,
             &[
                 property_type::MODE,
@@ -115,20 +102,34 @@ impl Structure<'_> {
                 row.dy,
             ],
         );
-        put_words(output, layer, &[property_type::END, 0])
+        output.words(&[property_type::END, 0]);
     }
 
     // The structure, with the pointers to the drawable's hierarchy and its mask.
+    pub fn put_into(&self, output: &mut Output<'_>, hierarchy: u32, mask: u32)
+        requires { output.old.at + length (structure_bytes self.now.row self.now.masked self.now.name.now hierarchy mask) ≤ length output.old.bytes.now }
+        ensures stores { Stores output.old (structure_bytes self.now.row self.now.masked self.now.name.now hierarchy mask) output.new }
+        ensures same { output.new.bytes.ghost_name ≡ output.old.bytes.ghost_name }
+    {
+        let row = self.row;
+        output.words(&[row.width, row.height]);
+        output.words_when(row.kind == kind::LAYER, &[row.form]);
+        put_name(output, self.name);
+        self.put_list(output);
+        output.word(hierarchy);
+        output.words_when(row.kind == kind::LAYER, &[mask]);
+    }
+
+    // The same, from a place on.
     pub fn put(&self, output: &mut [u8], to: usize, hierarchy: u32, mask: u32) -> usize
         requires { to + length (structure_bytes self.now.row self.now.masked self.now.name.now hierarchy mask) ≤ length output.old }
         ensures { Put output.old to (structure_bytes self.now.row self.now.masked self.now.name.now hierarchy mask) result output.new }
     {
-        let row = self.row;
-        let sides = put_words(output, to, &[row.width, row.height]);
-        let form = put_when(output, sides, row.kind == kind::LAYER, &[row.form]);
-        let named = put_name(output, form, self.name);
-        let list = self.put_list(output, named);
-        let link = put_word(output, list, hierarchy);
-        put_when(output, link, row.kind == kind::LAYER, &[mask])
+        let mut from = Output {
+            bytes: output,
+            at: to,
+        };
+        self.put_into(&mut from, hierarchy, mask);
+        from.at
     }
 }

@@ -51,64 +51,64 @@ module _ {old : List ℕ} {to : ℕ} (row : Row) (masked : Bool) where
         → Left old to row masked (layer_on row masked) next output → Left old to row masked (end_on row masked) behind new
     end_left p g = parts_next p g
 
-pub put_when-selection-requires : goal.put_when-selection-requires
-put_when-selection-requires c =
+pub words_when-requires : goal.words_when-requires
+words_when-requires c =
     let a = c.args in
     let selection = selection_left a.self.now.row a.self.now.masked c.requires in
-    rw c.flag_set.ensures (omega (arith, rw length-append at selection.fits.room))
+    rw c.flag_set-selection.ensures (omega (arith, rw length-append at selection.fits.room))
 
-pub put_when-active-requires : goal.put_when-active-requires
-put_when-active-requires c =
+pub words_when-requires-2 : goal.words_when-requires-2
+words_when-requires-2 c =
     let a = c.args in
     let selection = selection_left a.self.now.row a.self.now.masked c.requires in
-    let active = active_left a.self.now.row a.self.now.masked c.flag_set.ensures c.put_when-selection.ensures selection in
-    rw (c.active_type.ensures, active_of c.from.ensures, c.flag_set-2.ensures) (omega (arith, rw length-append at active.fits.room))
+    let active = active_left a.self.now.row a.self.now.masked c.flag_set-selection.ensures c.words_when.ensures.stores selection in
+    rw (c.active_type.ensures, active_of c.from.ensures, c.flag_set-active.ensures) (omega (arith, rw length-append at active.fits.room))
 
-pub put_words-visible-requires : goal.put_words-visible-requires
-put_words-visible-requires c =
+pub words-requires : goal.words-requires
+words-requires c =
     let a = c.args in
     let selection = selection_left a.self.now.row a.self.now.masked c.requires in
-    let active = active_left a.self.now.row a.self.now.masked c.flag_set.ensures c.put_when-selection.ensures selection in
-    let shown = shown_left a.self.now.row a.self.now.masked c.flag_set-2.ensures (c.active_type.ensures ∙ active_of c.from.ensures) c.put_when-active.ensures active in
+    let active = active_left a.self.now.row a.self.now.masked c.flag_set-selection.ensures c.words_when.ensures.stores selection in
+    let shown = shown_left a.self.now.row a.self.now.masked c.flag_set-active.ensures (c.active_type.ensures ∙ active_of c.from.ensures) c.words_when-2.ensures.stores active in
     omega (arith, rw (length-append, words_length) at shown.fits.room)
 
-pub put_when-apply-requires : goal.put_when-apply-requires
-put_when-apply-requires c =
+pub words_when-requires-3 : goal.words_when-requires-3
+words_when-requires-3 c =
     let a = c.args in
     let selection = selection_left a.self.now.row a.self.now.masked c.requires in
-    let active = active_left a.self.now.row a.self.now.masked c.flag_set.ensures c.put_when-selection.ensures selection in
-    let shown = shown_left a.self.now.row a.self.now.masked c.flag_set-2.ensures (c.active_type.ensures ∙ active_of c.from.ensures) c.put_when-active.ensures active in
-    let apply = apply_left a.self.now.row a.self.now.masked c.flag_of.ensures c.put_words-visible.ensures shown in
+    let active = active_left a.self.now.row a.self.now.masked c.flag_set-selection.ensures c.words_when.ensures.stores selection in
+    let shown = shown_left a.self.now.row a.self.now.masked c.flag_set-active.ensures (c.active_type.ensures ∙ active_of c.from.ensures) c.words_when-2.ensures.stores active in
+    let apply = apply_left a.self.now.row a.self.now.masked c.flag_of.ensures c.words.ensures.stores shown in
     rw c.flag_of-2.ensures (omega (arith, rw length-append at apply.fits.room))
 
-pub put_when-layer-requires : goal.put_when-layer-requires
-put_when-layer-requires c =
+pub words_when-requires-4 : goal.words_when-requires-4
+words_when-requires-4 c =
     let a = c.args in
     let selection = selection_left a.self.now.row a.self.now.masked c.requires in
-    let active = active_left a.self.now.row a.self.now.masked c.flag_set.ensures c.put_when-selection.ensures selection in
-    let shown = shown_left a.self.now.row a.self.now.masked c.flag_set-2.ensures (c.active_type.ensures ∙ active_of c.from.ensures) c.put_when-active.ensures active in
-    let apply = apply_left a.self.now.row a.self.now.masked c.flag_of.ensures c.put_words-visible.ensures shown in
-    let layer = layer_left a.self.now.row a.self.now.masked c.flag_of-2.ensures c.put_when-apply.ensures apply in
+    let active = active_left a.self.now.row a.self.now.masked c.flag_set-selection.ensures c.words_when.ensures.stores selection in
+    let shown = shown_left a.self.now.row a.self.now.masked c.flag_set-active.ensures (c.active_type.ensures ∙ active_of c.from.ensures) c.words_when-2.ensures.stores active in
+    let apply = apply_left a.self.now.row a.self.now.masked c.flag_of.ensures c.words.ensures.stores shown in
+    let layer = layer_left a.self.now.row a.self.now.masked c.flag_of-2.ensures c.words_when-3.ensures.stores apply in
     omega (arith, rw length-append at layer.fits.room)
 
-pub put_words-requires : goal.put_words-requires
-put_words-requires c =
+pub words-requires-2 : goal.words-requires-2
+words-requires-2 c =
     let a = c.args in
     let selection = selection_left a.self.now.row a.self.now.masked c.requires in
-    let active = active_left a.self.now.row a.self.now.masked c.flag_set.ensures c.put_when-selection.ensures selection in
-    let shown = shown_left a.self.now.row a.self.now.masked c.flag_set-2.ensures (c.active_type.ensures ∙ active_of c.from.ensures) c.put_when-active.ensures active in
-    let apply = apply_left a.self.now.row a.self.now.masked c.flag_of.ensures c.put_words-visible.ensures shown in
-    let layer = layer_left a.self.now.row a.self.now.masked c.flag_of-2.ensures c.put_when-apply.ensures apply in
-    let end = end_left a.self.now.row a.self.now.masked c.put_when-layer.ensures layer in
+    let active = active_left a.self.now.row a.self.now.masked c.flag_set-selection.ensures c.words_when.ensures.stores selection in
+    let shown = shown_left a.self.now.row a.self.now.masked c.flag_set-active.ensures (c.active_type.ensures ∙ active_of c.from.ensures) c.words_when-2.ensures.stores active in
+    let apply = apply_left a.self.now.row a.self.now.masked c.flag_of.ensures c.words.ensures.stores shown in
+    let layer = layer_left a.self.now.row a.self.now.masked c.flag_of-2.ensures c.words_when-3.ensures.stores apply in
+    let end = end_left a.self.now.row a.self.now.masked c.words_when-4.ensures.stores layer in
     rw words_length at end.fits.room
 
-pub returns : goal.returns
-returns c =
+pub returns-clause-stores : goal.returns-clause-stores
+returns-clause-stores c =
     let a = c.args in
     let selection = selection_left a.self.now.row a.self.now.masked c.requires in
-    let active = active_left a.self.now.row a.self.now.masked c.flag_set.ensures c.put_when-selection.ensures selection in
-    let shown = shown_left a.self.now.row a.self.now.masked c.flag_set-2.ensures (c.active_type.ensures ∙ active_of c.from.ensures) c.put_when-active.ensures active in
-    let apply = apply_left a.self.now.row a.self.now.masked c.flag_of.ensures c.put_words-visible.ensures shown in
-    let layer = layer_left a.self.now.row a.self.now.masked c.flag_of-2.ensures c.put_when-apply.ensures apply in
-    let end = end_left a.self.now.row a.self.now.masked c.put_when-layer.ensures layer in
-    end.whole _ _ c.put_words.ensures
+    let active = active_left a.self.now.row a.self.now.masked c.flag_set-selection.ensures c.words_when.ensures.stores selection in
+    let shown = shown_left a.self.now.row a.self.now.masked c.flag_set-active.ensures (c.active_type.ensures ∙ active_of c.from.ensures) c.words_when-2.ensures.stores active in
+    let apply = apply_left a.self.now.row a.self.now.masked c.flag_of.ensures c.words.ensures.stores shown in
+    let layer = layer_left a.self.now.row a.self.now.masked c.flag_of-2.ensures c.words_when-3.ensures.stores apply in
+    let end = end_left a.self.now.row a.self.now.masked c.words_when-4.ensures.stores layer in
+    end.whole _ _ c.words-2.ensures.stores

@@ -4,58 +4,58 @@ use lib.ListN.{length-append}
 use Rattle.xcf_store.proofs.Words.{word_length, words_length}
 use Rattle.xcf_structure.proofs.StructureLength.{structure_words}
 use Rattle.xcf_structure.proofs.PartsStored.{parts_first, parts_next}
-use Rattle.xcf_structure.proofs.Structure.put.Goals as goal
+use Rattle.xcf_structure.proofs.Structure.put_into.Goals as goal
 
-pub put_words-sides-requires : goal.put_words-sides-requires
-put_words-sides-requires c =
+pub words-requires : goal.words-requires
+words-requires c =
     let a = c.args in
     let sides = parts_first (structure_words a.self.now.row a.self.now.masked a.self.now.name.now a.hierarchy a.mask) c.requires in
     omega (arith, rw (length-append, words_length) at sides.fits.room)
 
-pub put_when-form-requires : goal.put_when-form-requires
-put_when-form-requires c =
+pub words_when-requires : goal.words_when-requires
+words_when-requires c =
     let a = c.args in
     let sides = parts_first (structure_words a.self.now.row a.self.now.masked a.self.now.name.now a.hierarchy a.mask) c.requires in
-    let form = parts_next c.put_words-sides.ensures sides in
+    let form = parts_next c.words.ensures.stores sides in
     omega (arith, rw length-append at form.fits.room)
 
-pub put_name-named-requires : goal.put_name-named-requires
-put_name-named-requires c =
+pub put_name-requires : goal.put_name-requires
+put_name-requires c =
     let a = c.args in
     let sides = parts_first (structure_words a.self.now.row a.self.now.masked a.self.now.name.now a.hierarchy a.mask) c.requires in
-    let name = parts_next c.put_when-form.ensures (parts_next c.put_words-sides.ensures sides) in
+    let name = parts_next c.words_when.ensures.stores (parts_next c.words.ensures.stores sides) in
     (c.args.self.now.short, omega (arith, rw length-append at name.fits.room))
 
-pub put_list-list-requires : goal.put_list-list-requires
-put_list-list-requires c =
+pub put_list-requires : goal.put_list-requires
+put_list-requires c =
     let a = c.args in
     let sides = parts_first (structure_words a.self.now.row a.self.now.masked a.self.now.name.now a.hierarchy a.mask) c.requires in
-    let name = parts_next c.put_when-form.ensures (parts_next c.put_words-sides.ensures sides) in
-    let list = parts_next c.put_name-named.ensures name in
+    let name = parts_next c.words_when.ensures.stores (parts_next c.words.ensures.stores sides) in
+    let list = parts_next c.put_name.ensures.stores name in
     omega (arith, rw length-append at list.fits.room)
 
-pub put_word-link-requires : goal.put_word-link-requires
-put_word-link-requires c =
+pub word-requires : goal.word-requires
+word-requires c =
     let a = c.args in
     let sides = parts_first (structure_words a.self.now.row a.self.now.masked a.self.now.name.now a.hierarchy a.mask) c.requires in
-    let name = parts_next c.put_when-form.ensures (parts_next c.put_words-sides.ensures sides) in
-    let pointers = parts_next c.put_list-list.ensures (parts_next c.put_name-named.ensures name) in
+    let name = parts_next c.words_when.ensures.stores (parts_next c.words.ensures.stores sides) in
+    let pointers = parts_next c.put_list.ensures.stores (parts_next c.put_name.ensures.stores name) in
     omega (arith, rw (length-append, word_length) at pointers.fits.room)
 
-pub put_when-requires : goal.put_when-requires
-put_when-requires c =
+pub words_when-requires-2 : goal.words_when-requires-2
+words_when-requires-2 c =
     let a = c.args in
     let sides = parts_first (structure_words a.self.now.row a.self.now.masked a.self.now.name.now a.hierarchy a.mask) c.requires in
-    let name = parts_next c.put_when-form.ensures (parts_next c.put_words-sides.ensures sides) in
-    let pointers = parts_next c.put_list-list.ensures (parts_next c.put_name-named.ensures name) in
-    let mask = parts_next c.put_word-link.ensures pointers in
+    let name = parts_next c.words_when.ensures.stores (parts_next c.words.ensures.stores sides) in
+    let pointers = parts_next c.put_list.ensures.stores (parts_next c.put_name.ensures.stores name) in
+    let mask = parts_next c.word.ensures.stores pointers in
     mask.fits.room
 
-pub returns : goal.returns
-returns c =
+pub returns-clause-stores : goal.returns-clause-stores
+returns-clause-stores c =
     let a = c.args in
     let sides = parts_first (structure_words a.self.now.row a.self.now.masked a.self.now.name.now a.hierarchy a.mask) c.requires in
-    let name = parts_next c.put_when-form.ensures (parts_next c.put_words-sides.ensures sides) in
-    let pointers = parts_next c.put_list-list.ensures (parts_next c.put_name-named.ensures name) in
-    let mask = parts_next c.put_word-link.ensures pointers in
-    mask.whole _ _ c.put_when.ensures
+    let name = parts_next c.words_when.ensures.stores (parts_next c.words.ensures.stores sides) in
+    let pointers = parts_next c.put_list.ensures.stores (parts_next c.put_name.ensures.stores name) in
+    let mask = parts_next c.word.ensures.stores pointers in
+    mask.whole _ _ c.words_when-2.ensures.stores
