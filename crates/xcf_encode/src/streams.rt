@@ -1,10 +1,11 @@
 // Streams of a size, one behind the other: measured and encoded.
-ghost use Rattle.std.specs.Prelude.{◌≡◌, ◌*◌, ◌≤◌, length};
+ghost use Rattle.std.specs.Prelude.{◌≡◌, ◌+◌, ◌*◌, ◌≤◌, length};
 ghost use Rattle.xcf_numbers.specs.Limit.{depth_limit, stream_limit};
 
 use xcf_numbers::reason::Reason;
 use xcf_segment::measure::encoded_size;
 use xcf_segment::put::put_stream;
+use xcf_store::output::Output;
 
 // `count` streams of `size` bytes each, of those that are left.
 #[derive(Clone, Copy)]
@@ -44,7 +45,7 @@ impl<'a> Streams<'a> {
     ghost use Rattle.xcf_encode.specs.Parts.{parts, StreamsRoom, most_bytes, EncodedInto};
     ghost use Rattle.xcf_encode.specs.Streams.{streams_left};
     ghost use Rattle.xcf_segment.specs.Segment.{encode_stream};
-    ghost use Rattle.xcf_store.specs.Put.{Put};
+    ghost use Rattle.xcf_store.specs.Output.{Stores};
 
     pub(crate) fn new(planar: &'a [u8], size: usize, count: usize) -> Streams<'a>
         requires { StreamsRoom planar.now size count }
@@ -83,25 +84,29 @@ impl<'a> Streams<'a> {
         self.most_bytes() <= room || self.encoded_size() <= room
     }
 
-    // The streams' encodings, one behind the other, at the output's start.
-    fn put(self, output: &mut [u8]) -> usize
-        requires { length (flat_map encode_stream (streams_left self)) ≤ length output.old }
-        ensures { Put output.old 0 (flat_map encode_stream (streams_left self.entry)) result output.new }
+    // The streams' encodings, one behind the other.
+    fn put(self, output: &mut Output<'_>)
+        requires { output.old.at + length (flat_map encode_stream (streams_left self)) ≤ length output.old.bytes.now }
+        ensures stores { Stores output.old (flat_map encode_stream (streams_left self.entry)) output.new }
+        ensures same { output.new.bytes.ghost_name ≡ output.old.bytes.ghost_name }
     {
-        let mut to = 0;
         for stream in self {
-            to += put_stream(stream, &mut output[to..]);
+            put_stream(stream, output);
         }
-        to
     }
 
-    // The streams' encodings, where they fit.
+    // The streams' encodings at the output's start, where they fit.
     pub(crate) fn encode(self, output: &mut [u8]) -> Result<usize, Reason>
         ensures { EncodedInto (flat_map encode_stream (streams_left self.entry)) output.old result output.new }
     {
         if !self.fit(output.len()) {
             return Err(Reason::NoRoom);
         }
-        Ok(self.put(output))
+        let mut front = Output {
+            bytes: output,
+            at: 0,
+        };
+        self.put(&mut front);
+        Ok(front.at)
     }
 }

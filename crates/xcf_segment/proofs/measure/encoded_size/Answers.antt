@@ -7,7 +7,7 @@ use Rattle.xcf_segment.proofs.SegmentsWithin.{segments_within}
 use Rattle.xcf_segment.proofs.measure.encoded_size.Goals as goal
 
 pub loop-segment-init : goal.loop-segment-init
-loop-segment-init c = size_start _ (segments_within _ c.args.stream.now c.requires) cc
+loop-segment-init c = size_start 0 _ (segments_within _ c.args.stream.now c.requires) cc
 
 pub segment_size-size-requires : goal.segment_size-size-requires
 segment_size-size-requires c = (here c.loop-segment.invariant _ _ c.in-Some.ensures.steps).short
@@ -24,4 +24,4 @@ loop-segment-preserved c =
 
 pub returns : goal.returns
 unfolding encode_stream
-returns c = size_whole c.loop-segment.invariant c.in-None.ensures.steps.0
+returns c = omega (arith, size_whole c.loop-segment.invariant c.in-None.ensures.steps.0)

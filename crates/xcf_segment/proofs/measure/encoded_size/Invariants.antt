@@ -7,4 +7,4 @@ use Rattle.xcf_segment.proofs.SegmentsWithin.{Within}
 use Rattle.xcf_segment.proofs.measure.encoded_size.Given as goal
 
 abbrev pub invariant-loop-segment : goal.invariant-loop-segment
-invariant-loop-segment l = SizeLeft segment_bytes (Within stream_limit) (segments l.stream) (segments_left l.segment-iterator) l.size
+invariant-loop-segment l = SizeLeft segment_bytes (Within stream_limit) (segments l.stream) 0 (segments_left l.segment-iterator) l.size

@@ -5,19 +5,19 @@ use Rattle.xcf_segment.proofs.SegmentsWithin.{segments_within}
 use Rattle.xcf_segment.proofs.put.put_stream.Goals as goal
 
 pub loop-segment-init : goal.loop-segment-init
-loop-segment-init c = store_start _ (segments_within _ c.args.stream.now c.requires.0) (cc) c.args.output.now
+loop-segment-init c = store_start c.args.output.now _ (segments_within _ c.args.stream.now c.requires.short) cc
 
-pub put_segment-to-requires : goal.put_segment-to-requires
+pub put_segment-requires : goal.put_segment-requires
 unfolding encode_stream
-put_segment-to-requires c =
+put_segment-requires c =
     let step = c.in-Some.ensures.steps in
     let within = here c.loop-segment.invariant.sizes _ _ step in
-    record { some = within.some; short = within.short; segment_in_bounds = store_room c.loop-segment.invariant _ _ step c.requires.1 }
+    record { some = within.some; short = within.short; room = store_room c.loop-segment.invariant _ _ step c.requires.room }
 
 pub loop-segment-preserved : goal.loop-segment-preserved
 loop-segment-preserved c =
-    store_turn c.loop-segment.invariant _ _ c.in-Some.ensures.steps c.put_segment-to.ensures
+    store_turn c.loop-segment.invariant _ _ c.in-Some.ensures.steps c.put_segment.ensures.stores c.put_segment.ensures.same
 
-pub returns : goal.returns
+pub returns-clause-stores : goal.returns-clause-stores
 unfolding encode_stream
-returns c = store_whole c.loop-segment.invariant c.in-None.ensures.steps.0
+returns-clause-stores c = store_whole c.loop-segment.invariant c.in-None.ensures.steps.0

@@ -7,4 +7,4 @@ use Rattle.xcf_segment.proofs.SegmentsWithin.{Within}
 use Rattle.xcf_segment.proofs.put.put_stream.Given as goal
 
 abbrev pub invariant-loop-segment : goal.invariant-loop-segment
-invariant-loop-segment l = StoreLeft segment_bytes (Within stream_limit) (segments l.stream) l.initial.output (segments_left l.segment-iterator) l.to l.output
+invariant-loop-segment l = StoreLeft segment_bytes (Within stream_limit) (segments l.stream) l.initial.output (segments_left l.segment-iterator) l.output

@@ -1,4 +1,5 @@
 -- Each return is the law of encodings put into the output, by whether they fit.
+use Rattle.std.proofs.Common.{rules}
 use mathlib.Core.Path.{sym, ◌∙◌}
 use borrow.Author.Tests.{leb-true, leb-false}
 use Rattle.xcf_encode.proofs.Answers.{no_room, stored}
@@ -8,4 +9,4 @@ pub returns-then-not-fit : goal.returns-then-not-fit
 returns-then-not-fit c = no_room _ _ (leb-false _ _ (sym c.fit.ensures ∙ c.if-not-fit.true))
 
 pub returns : goal.returns
-returns c = stored (leb-true _ _ (sym c.fit.ensures ∙ c.if-not-fit.false)) c.put.ensures
+returns c = stored (leb-true _ _ (sym c.fit.ensures ∙ c.if-not-fit.false)) (search rules)

@@ -6,7 +6,7 @@ use Rattle.xcf_encode.proofs.streams.Streams.encoded_size.Goals as goal
 
 pub loop-stream-init : goal.loop-stream-init
 loop-stream-init c =
-    let s = c.args.self in size_start _ (parts_short s.count 0 s.size s.rest.now s.short) cc
+    let s = c.args.self in size_start 0 _ (parts_short s.count 0 s.size s.rest.now s.short) cc
 
 pub encoded_size-size-requires : goal.encoded_size-size-requires
 encoded_size-size-requires c = here c.loop-stream.invariant _ _ c.in-Some.ensures.steps
@@ -22,4 +22,4 @@ loop-stream-preserved c =
     size_turn c.loop-stream.invariant _ _ c.in-Some.ensures.steps _ c.encoded_size-size.ensures
 
 pub returns : goal.returns
-returns c = size_whole c.loop-stream.invariant c.in-None.ensures.steps.0
+returns c = omega (arith, size_whole c.loop-stream.invariant c.in-None.ensures.steps.0)

@@ -6,4 +6,4 @@ use Rattle.xcf_encode.proofs.Parts.{Short}
 use Rattle.xcf_encode.proofs.streams.Streams.encoded_size.Given as goal
 
 abbrev pub invariant-loop-stream : goal.invariant-loop-stream
-invariant-loop-stream l = SizeLeft encode_stream Short (streams_left l.fn.self) (streams_left l.stream-iterator) l.size
+invariant-loop-stream l = SizeLeft encode_stream Short (streams_left l.fn.self) 0 (streams_left l.stream-iterator) l.size

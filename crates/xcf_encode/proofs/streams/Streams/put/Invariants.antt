@@ -6,4 +6,4 @@ use Rattle.xcf_encode.proofs.Parts.{Short}
 use Rattle.xcf_encode.proofs.streams.Streams.put.Given as goal
 
 abbrev pub invariant-loop-stream : goal.invariant-loop-stream
-invariant-loop-stream l = StoreLeft encode_stream Short (streams_left l.fn.self) l.initial.output (streams_left l.stream-iterator) l.to l.output
+invariant-loop-stream l = StoreLeft encode_stream Short (streams_left l.fn.self) l.initial.output (streams_left l.stream-iterator) l.output
