@@ -1,7 +1,8 @@
 // The first bytes of a file: fixed byte strings.
-ghost use Rattle.std.specs.Prelude.{◌≡◌, length, get_or, true, false, MatchOption, ltb};
+ghost use Rattle.std.specs.Prelude.{◌≡◌};
 ghost use Rattle.xcf_walk.specs.Cursor.{Walks};
-ghost use Rattle.xcf_parse.specs.Header.{same, versions, tags, place_in, header};
+ghost use Rattle.xcf_parse.specs.Header.{same, header};
+ghost use Rattle.xcf_parse.specs.Parts.{VersionOf};
 
 use xcf_numbers::reason::{Reason, Refusal};
 use xcf_numbers::version;
@@ -26,23 +27,25 @@ fn same(bytes: &[u8], text: &[u8]) -> bool
     bytes == text
 }
 
+// The tags of the versions that are read.
+const TAGS: [([u8; 5], u32); 5] = [
+    (FILE, 0),
+    (V001, 1),
+    (V002, 2),
+    (V003, 3),
+    (V011, version::WIDE),
+];
+
 // The version of a tag that is known.
 fn version_of(tag: &[u8]) -> Option<u32>
-    ensures { MatchOption result (ltb (place_in tags tag.now) (length tags) ≡ false) (λ v. (ltb (place_in tags tag.now) (length tags) ≡ true) × (get_or versions (place_in tags tag.now) 0 ≡ v)) }
+    ensures { VersionOf tag.now result }
 {
-    if same(tag, &FILE) {
-        Some(0)
-    } else if same(tag, &V001) {
-        Some(1)
-    } else if same(tag, &V002) {
-        Some(2)
-    } else if same(tag, &V003) {
-        Some(3)
-    } else if same(tag, &V011) {
-        Some(version::WIDE)
-    } else {
-        None
+    for (known, version) in TAGS {
+        if same(tag, &known) {
+            return Some(version);
+        }
     }
+    None
 }
 
 #[tactic(auto, using(xcf_walk::proofs::Walks::steps), unfolding(crate::specs::Header::header))]

@@ -1,7 +1,6 @@
 // What stands in a file before its pointers.
-ghost use Rattle.std.specs.Prelude.{◌≡◌, ◌≤◌, cond, eqb, IfOk};
+ghost use Rattle.std.specs.Prelude.{◌≡◌, ◌≤◌, IfOk};
 ghost use Rattle.xcf_numbers.specs.Limit.{side_limit};
-ghost use Rattle.xcf_numbers.specs.Base;
 ghost use Rattle.xcf_store.specs.Width.{bytes_of};
 ghost use Rattle.xcf_walk.specs.Cursor.{Walks};
 ghost use Rattle.xcf_parse.specs.Image.{pointer_size, base_ok, base_type, precision, head};
@@ -70,13 +69,6 @@ fn precision(cursor: &mut Cursor, version: u32) -> Result<(), Refusal>
     require(n == EIGHT_BIT_GAMMA, Reason::BadPrecision, at)
 }
 
-// 1 for an indexed image.
-fn unmapped(base: u32) -> u32
-    ensures { result ≡ cond (eqb base Base.indexed) 1 0 }
-{
-    if base == base::INDEXED { 1 } else { 0 }
-}
-
 #[tactic(auto, using(xcf_walk::proofs::Walks::steps), unfolding(crate::specs::Image::head))]
 pub fn read_head(cursor: &mut Cursor) -> Result<Head, Refusal>
     ensures walks { Walks head cursor.old result cursor.new }
@@ -88,7 +80,8 @@ pub fn read_head(cursor: &mut Cursor) -> Result<Head, Refusal>
     let base = base_type(cursor, version)?;
     precision(cursor, version)?;
     let pointer = pointer_width(version);
-    let unmapped = unmapped(base);
+    // The list of an indexed image must hold a colour map.
+    let unmapped = u32::from(base == base::INDEXED);
     let p = cursor.properties(pointer, ListKind::Image, unmapped)?;
     Ok(Head {
         version,
