@@ -14,7 +14,7 @@ use xcf_property::ListKind;
 use xcf_store::pointer::Width;
 use xcf_walk::cursor::{Cursor, require};
 
-// What stands before the pointers.
+// What stands before the pointers. The version and the base type are numbers, as what C is told has them.
 #[derive(Clone, Copy)]
 pub struct Head {
     pub version: u32,

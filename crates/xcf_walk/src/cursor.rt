@@ -12,7 +12,7 @@ use xcf_store::pointer::{Width, number_at};
 use xcf_store::word::word_at;
 use xcf_utf8::well_formed;
 
-// A place in a file.
+// A place in a file. How wide pointers are stands beside it: a file's first fields are read before that is known.
 #[derive(Clone, Copy)]
 pub struct Cursor<'a> {
     pub file: &'a [u8],
@@ -52,6 +52,7 @@ fn before_zero(bytes: &[u8]) -> Option<&[u8]>
 }
 
 impl<'a> Cursor<'a> {
+    // Moves to another place of the file.
     pub fn jump(&mut self, to: usize)
         ensures { self.new ≡ record { file = self.old.file; at = to } }
     {
@@ -92,6 +93,7 @@ impl<'a> Cursor<'a> {
         Ok(number_at(bytes, 0, width))
     }
 
+    // A length word and a name with the zero that ends it; the bytes of the name are taken well-formed or not.
     #[tactic(auto, using(crate::proofs::Walks::steps), unfolding(crate::specs::Fields::string))]
     pub fn string(&mut self) -> Result<Name, Refusal>
         ensures { Walks string self.old result self.new }

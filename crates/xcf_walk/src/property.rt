@@ -27,7 +27,7 @@ pub struct Property {
 }
 
 impl<'a> Cursor<'a> {
-    // Here and below, at is the place of the length word.
+    // A payload whose length its type allows. Here and below, at is the place of the length word, and n what it says.
     #[tactic(auto, using(crate::proofs::Walks::steps), unfolding(crate::specs::Property::payload))]
     fn payload(&mut self, width: Width, kind: u32, at: usize, n: u32) -> Result<Content, Refusal>
         ensures { Walks (payload (bytes_of width) kind at n) self.old result self.new }
@@ -38,6 +38,7 @@ impl<'a> Cursor<'a> {
         Ok(content_of(bytes, 0, bytes.len()))
     }
 
+    // The image's colour map; a map whose length word says too little still has three bytes for each colour.
     #[tactic(auto, using(crate::proofs::Walks::steps), unfolding(crate::specs::Property::colour_map))]
     fn colour_map(&mut self, at: usize, n: u32) -> Result<Content, Refusal>
         ensures { Walks (colour_map at n) self.old result self.new }
