@@ -3,6 +3,7 @@
 
 ghost use Rattle.std.specs.Prelude.{◌≡◌, cond, [], ◌∷◌, ◌++◌, ◌+◌, ◌≤◌, length, get_or};
 ghost use Rattle.xcf_numbers.specs.Limit.{table_rows, image_limit};
+ghost use Rattle.xcf_store.specs.Output.{Stores};
 ghost use Rattle.xcf_store.specs.Put.{Put};
 ghost use Rattle.xcf_parse.specs.Header.{tags};
 ghost use Rattle.xcf_store.specs.Word.{words};
@@ -12,21 +13,19 @@ ghost use Rattle.xcf_image.specs.Parts.{rows_from, LowPlaces};
 use xcf_numbers::limit::{NEW_MODE, PLACES_SIZE};
 use xcf_numbers::{kind, property_type};
 use xcf_parse::header::{FILE, MAGIC, V002};
-use xcf_store::put::{put_bytes, put_when, put_word, put_words};
+use xcf_store::output::Output;
 use xcf_table::canvas::Canvas;
 use xcf_table::row_at;
 
 // The length of an image's structure without pointers.
 const BARE_SIZE: usize = 51;
 
-fn put_tag(output: &mut [u8], to: usize, new: bool) -> usize
-    requires { to + 5 ≤ length output.old }
-    ensures { Put output.old to (get_or tags (cond new 2 0) []) result output.new }
+fn put_tag(output: &mut Output<'_>, new: bool)
+    requires { output.old.at + 5 ≤ length output.old.bytes.now }
+    ensures stores { Stores output.old (get_or tags (cond new 2 0) []) output.new }
+    ensures same { output.new.bytes.ghost_name ≡ output.old.bytes.ghost_name }
 {
-    if new {
-        return put_bytes(output, to, &V002);
-    }
-    put_bytes(output, to, &FILE)
+    output.bytes(if new { &V002 } else { &FILE });
 }
 
 // An image: its canvas, and the rows of a table, as many of them as are used.
@@ -65,24 +64,41 @@ impl Image<'_> {
     }
 
     // The places of those rows that are of a kind, and a 0.
-    fn put_pointers(
-        &self,
-        output: &mut [u8],
-        to: usize,
-        kind: u32,
-        places: &[usize; PLACES_SIZE],
-    ) -> usize
+    fn put_pointers(&self, output: &mut Output<'_>, kind: u32, places: &[usize; PLACES_SIZE])
         requires low_places { LowPlaces places.now self.now.used }
-        requires places_in_bounds { to + length (words (kind_places kind (rows_from self.now.table.now self.now.used 0) places.now ++ (0 ∷ []))) ≤ length output.old }
-        ensures { Put output.old to (words (kind_places kind (rows_from self.now.table.now self.now.used 0) places.now ++ (0 ∷ []))) result output.new }
+        requires room { output.old.at + length (words (kind_places kind (rows_from self.now.table.now self.now.used 0) places.now ++ (0 ∷ []))) ≤ length output.old.bytes.now }
+        ensures stores { Stores output.old (words (kind_places kind (rows_from self.now.table.now self.now.used 0) places.now ++ (0 ∷ []))) output.new }
+        ensures same { output.new.bytes.ghost_name ≡ output.old.bytes.ghost_name }
     {
-        let mut next = to;
         for k in 0..self.used {
             let row = row_at(self.table, k);
             let place = places[k as usize] as u32;
-            next = put_when(output, next, row.kind == kind, &[place]);
+            output.words_when(row.kind == kind, &[place]);
         }
-        put_word(output, next, 0)
+        output.word(0);
+    }
+
+    // The image's structure.
+    pub fn put_into(&self, output: &mut Output<'_>, places: &[usize; PLACES_SIZE])
+        requires low_places { LowPlaces places.now self.now.used }
+        requires room { output.old.at + length (image_of self.now.canvas (rows_from self.now.table.now self.now.used 0) places.now) ≤ length output.old.bytes.now }
+        ensures stores { Stores output.old (image_of self.now.canvas (rows_from self.now.table.now self.now.used 0) places.now) output.new }
+        ensures same { output.new.bytes.ghost_name ≡ output.old.bytes.ghost_name }
+    {
+        let canvas = self.canvas;
+        output.bytes(&MAGIC);
+        put_tag(output, self.has_new_mode());
+        output.words(&[
+            canvas.width,
+            canvas.height,
+            canvas.base,
+            property_type::COMPRESSION,
+            1,
+        ]);
+        output.byte(1);
+        output.words(&[property_type::END, 0]);
+        self.put_pointers(output, kind::LAYER, places);
+        self.put_pointers(output, kind::CHANNEL, places);
     }
 
     // The image's structure at the output's start.
@@ -91,20 +107,11 @@ impl Image<'_> {
         requires places_in_bounds { length (image_of self.now.canvas (rows_from self.now.table.now self.now.used 0) places.now) ≤ length output.old }
         ensures { Put output.old 0 (image_of self.now.canvas (rows_from self.now.table.now self.now.used 0) places.now) result output.new }
     {
-        let magic = put_bytes(output, 0, &MAGIC);
-        let tag = put_tag(output, magic, self.has_new_mode());
-        let canvas = self.canvas;
-        let words = [
-            canvas.width,
-            canvas.height,
-            canvas.base,
-            property_type::COMPRESSION,
-            1,
-        ];
-        let compression = put_words(output, tag, &words);
-        output[compression] = 1;
-        let list = put_words(output, compression + 1, &[property_type::END, 0]);
-        let layers = self.put_pointers(output, list, kind::LAYER, places);
-        self.put_pointers(output, layers, kind::CHANNEL, places)
+        let mut front = Output {
+            bytes: output,
+            at: 0,
+        };
+        self.put_into(&mut front, places);
+        front.at
     }
 }
