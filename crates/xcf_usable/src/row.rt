@@ -24,7 +24,7 @@ fn all_zero(numbers: &[u32]) -> bool
     numbers.iter().all(|n| *n == 0)
 }
 
-// Whether a used row is as its kind asks, behind the rows seen.
+// Whether a used row is as its kind asks, behind the rows seen. A lent table may hold any number as a kind.
 #[tactic(auto, unfolding(crate::specs::Usable::kind_ok))]
 fn kind_ok(canvas: Canvas, k: u32, seen: Seen, row: Row, masked: bool) -> bool
     ensures { result ≡ kind_ok canvas k seen row masked }
