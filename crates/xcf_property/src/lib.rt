@@ -18,7 +18,7 @@ pub struct Content {
 }
 
 // What a list says, for all four kinds of list. All are numbers, also those that are 0 or 1: `put` and the flags of rows
-// (`xcf_row`) speak of numbers, and where a list's rule doesn't ask for 0 or 1, a file may hold another.
+// (`xcf_row`) speak of numbers, and where a list's rule does not ask for 0 or 1, a file may hold another.
 #[derive(Clone, Copy, Default)]
 pub struct Properties {
     pub compression: u32,
@@ -59,7 +59,7 @@ impl From<u32> for ListKind {
 }
 
 // Whether a payload of this type may have n bytes where a pointer has `size`. Some types of the format are skipped by
-// their length, and so are all that it doesn't have.
+// their length, and so are all that it does not have.
 #[tactic(auto, using(crate::proofs::Lengths::skipped), unfolding(crate::specs::Property::length_ok))]
 pub fn length_ok(kind: u32, n: u32, size: usize) -> bool
     ensures { result ≡ length_ok size kind n }

@@ -34,7 +34,7 @@ pub(crate) struct Record<'a> {
     pub lent: usize,
 }
 
-// The records of an input, up to the first that isn't whole.
+// The records of an input, up to the first that is not whole.
 #[derive(Drop)]
 pub(crate) struct Records<'a> {
     rest: &'a [u8],
