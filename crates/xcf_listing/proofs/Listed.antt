@@ -5,7 +5,7 @@
 use mathlib.Core.Path.{◌≡◌, refl, sym, ap, ◌∙◌}
 use mathlib.Core.List.{List, ◌++◌}
 use mathlib.Core.Bool.{true, false, and-eq-true_iff}
-use mathlib.Core.Logic.{⊎_elim}
+use mathlib.Core.Logic.{◌⊎◌, inl, inr, ⊎_elim}
 use Prim.Native.Nat.{ℕ, ◌≤◌, ◌<◌}
 use native.Mathlib.Nat.{zero-add}
 use native.Mathlib.Omega.{arith}
@@ -148,13 +148,10 @@ pub lists_printed : {file table text : List ℕ} {r : ListAnswer} {after new : L
 lists_printed l = rw l.answer at l
 
 -- the tests of the lent table and text
-pub fits_not_table : (table text : ℕ) → (table ≡ table_size → ⊥) → lent_fits table text ≡ false
+pub fits_not : (table text : ℕ) → (table ≡ table_size → ⊥) ⊎ ((table ≡ table_size) × (text < text_size)) → lent_fits table text ≡ false
 unfolding lent_fits
-fits_not_table table text n = rw (ne_eqb _ _ n)
-
-pub fits_not_text : (table text : ℕ) → table ≡ table_size → text < text_size → lent_fits table text ≡ false
-unfolding lent_fits
-fits_not_text table text t n = rw (eq-eqb _ _ t, lt-leb _ _ n)
+fits_not table text (inl n) = rw (ne_eqb _ _ n)
+fits_not table text (inr n) = rw (eq-eqb _ _ n.0, lt-leb _ _ n.1)
 
 pub fits_both : (table text : ℕ) → table ≡ table_size → text_size ≤ text → lent_fits table text ≡ true
 unfolding lent_fits
