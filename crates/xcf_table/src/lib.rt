@@ -4,7 +4,7 @@
 pub mod canvas;
 
 ghost use Rattle.std.specs.Prelude.{◌≡◌};
-ghost use Rattle.xcf_table.specs.Table.{NumbersOf, RowOf, IsUnused, unused_row, put_row, row_at, clear_from};
+ghost use Rattle.xcf_table.specs.Table.{NumbersOf, RowOf, IsUnused, put_row, row_at, clear_from};
 
 use xcf_numbers::limit::ROW_SIZE;
 
@@ -86,12 +86,6 @@ impl Default for Row {
     fn default() -> Row {
         Row::from([0; ROW_SIZE])
     }
-}
-
-pub fn unused_row() -> Row
-    ensures { result ≡ unused_row }
-{
-    Row::default()
 }
 
 // A row becomes row k of the table, if the table has such a row.
