@@ -1,7 +1,7 @@
 // One operation of an encoded stream.
 #![tactic(auto)]
 
-ghost use Rattle.std.specs.Prelude.{◌≡◌, length, IfOk};
+ghost use Rattle.std.specs.Prelude.{◌≡◌, ◌≤◌, length, IfOk, IfSome};
 ghost use Rattle.xcf_operation.specs.Operation.{head_at, operation_at};
 ghost use Rattle.xcf_operation.specs.Parts.{head_read, given, operation_read, DataOf};
 
@@ -50,7 +50,8 @@ pub struct Operation<'a> {
 // The head at a place, unless the window ends before it does.
 #[tactic(auto, unfolding(crate::specs::Operation::head_at, crate::specs::Operation::head_of))]
 fn head_at(window: &[u8], at: usize) -> Option<Head>
-    ensures { head_read result ≡ head_at window.now at }
+    ensures head { head_read result ≡ head_at window.now at }
+    ensures inside { IfSome result (λ h. h.body ≤ length window.now) }
 {
     match window.get(at..)? {
         [code @ 0..127, ..] => Some(Head {
@@ -79,24 +80,24 @@ pub fn operation_at(window: &[u8], at: usize, left: usize) -> Result<Operation<'
     ensures data { IfOk result (λ o. DataOf window.now (head_at window.now at) o.bytes) }
 {
     let Head { kind, count, body } = head_at(window, at).ok_or(Fault::Short)?;
-    let size = match kind {
-        Kind::Run => 1,
-        Kind::Copy => count,
-    };
     if left < count {
         return Err(Fault::Overrun);
     }
-    let rest = window.get(body..).ok_or(Fault::Short)?;
-    let data = rest.get(..size).ok_or(Fault::Short)?;
-    let bytes = match kind {
-        Kind::Run => Bytes::Run {
-            value: data[0],
-            count,
-        },
-        Kind::Copy => Bytes::Copy(data),
-    };
-    Ok(Operation {
-        bytes,
-        next: body + size,
-    })
+    let data = &window[body..];
+    match kind {
+        Kind::Run => {
+            let value = *data.first().ok_or(Fault::Short)?;
+            Ok(Operation {
+                bytes: Bytes::Run { value, count },
+                next: body + 1,
+            })
+        }
+        Kind::Copy => {
+            let bytes = data.get(..count).ok_or(Fault::Short)?;
+            Ok(Operation {
+                bytes: Bytes::Copy(bytes),
+                next: body + count,
+            })
+        }
+    }
 }
