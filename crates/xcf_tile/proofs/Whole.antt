@@ -1,32 +1,21 @@
--- A tile as a whole: plain or encoded, good or marked. A good encoded tile needs no pixels cleared before it, as its planes
--- cover them all.
+-- An encoded tile as a whole, good or marked. A good one needs no pixels cleared before it, as its planes cover them all.
 -- Assumes nothing.
-use mathlib.Core.Path.{◌≡◌, refl, sym, ap, ◌∙◌}
+use mathlib.Core.Path.{◌≡◌, sym, ap, ◌∙◌}
 use mathlib.Core.List.{List}
 use mathlib.Core.Bool.{true, false}
-use Prim.Native.Nat.{ℕ, ◌*◌, ◌≤◌, ◌<◌}
+use Prim.Native.Nat.{ℕ, ◌*◌}
 use native.Mathlib.Nat.{mul_comm}
-use borrow.Author.Tests.{le-leb, lt-leb, eq-eqb}
-use lib.ListN.{length, take, replicate}
-use Rattle.std.proofs.Common.{Some, None}
+use borrow.Author.Tests.{eq-eqb}
+use lib.ListN.{length, replicate}
 use Rattle.std.specs.Option.{is_some}
-use Rattle.xcf_numbers.specs.declared.fault.Fault.TheVariants as fault
 use Rattle.xcf_stream.proofs.Faults.{marked, unmarked}
-use Rattle.xcf_tile.specs.Tile.{plain_tile, encoded_tile}
+use Rattle.xcf_tile.specs.Tile.{encoded_tile}
 use Rattle.xcf_stream.specs.Streams.{streams_at}
 use Rattle.xcf_stream.specs.declared.StreamEnd.{StreamEnd}
 use Rattle.xcf_stream.specs.Parts.{StreamedAll}
 use Rattle.xcf_tile.specs.Parts.{TileGiven}
 use Rattle.xcf_tile.proofs.Lengths.{streams_whole}
 use Rattle.xcf_tile.proofs.Interleaved.{scatter_all_lem}
-
-pub plain_short : (ws : List ℕ) (n depth : ℕ) → length ws < n * depth → TileGiven (plain_tile ws n depth) (record { fault = Some fault.Short; at = 0; operations = 0 }) (replicate (n * depth) 0)
-unfolding plain_tile
-plain_short ws n depth h = simp (lt-leb _ _ h) (record { mark = refl; consumed = refl; operations = refl; pixels = refl })
-
-pub plain_whole : (ws : List ℕ) (n depth : ℕ) → n * depth ≤ length ws → TileGiven (plain_tile ws n depth) (record { fault = None; at = n * depth; operations = 0 }) (take (n * depth) ws)
-unfolding plain_tile
-plain_whole ws n depth h = simp (le-leb _ _ h) (record { mark = refl; consumed = refl; operations = refl; pixels = refl })
 
 module _ {ws : List ℕ} {n depth : ℕ} {start : List ℕ} {r : StreamEnd} {pixels : List ℕ} (l : StreamedAll ws n depth start r pixels) where
   pub encoded_good : length start ≡ n * depth → is_some r.fault ≡ false → TileGiven (encoded_tile ws n depth) r pixels
