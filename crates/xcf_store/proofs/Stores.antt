@@ -1,11 +1,10 @@
--- Bytes stored one after the other: what was stored in two goes, by single stores or by a copy is what `sets` stores, by
+-- Bytes stored one after the other: what was stored in two goes or by a copy is what `sets` stores, by
 -- induction on the bytes. `Put` says it with the place behind the bytes, `PutWithin` with a bound on how many they are.
 -- Assumes nothing.
 use mathlib.Core.Path.{◌≡◌, refl, sym, ap, ◌∙◌}
 use mathlib.Core.List.{List, [], ◌∷◌, ◌++◌, append_assoc}
 use Prim.Native.Nat.{ℕ, suc, ◌+◌, ◌*◌, ◌≤◌}
 use native.Mathlib.Nat.{add-zero, zero-add, le_refl}
-use native.Mathlib.Numerals.{add-one, add-two}
 use native.Mathlib.Omega.{arith}
 use lib.ListN.{length, take, drop, set, length-append, length-take, length-drop, take-append-drop}
 use lib.Seq.{sets, sets-eq, length-sets, take-length, drop-drop, drop-append-le}
@@ -34,16 +33,6 @@ part_sets l a k bs h s =
     let rest = part_rest l a k (length bs) h s in
     rw (sets-eq bs (take k (drop a l)) 0 (omega arith), sets-eq bs l a (omega arith), zero-add)
     (ap (λ (r : List ℕ). take a l ++ r) (append_assoc bs _ _ ∙ ap (λ (r : List ℕ). bs ++ r) rest) ∙ sym (append_assoc (take a l) bs _))
-
--- one byte, two and three, as the code stores them
-pub put_one : (l : List ℕ) (to a : ℕ) → Put l to (a ∷ []) (to + 1) (set l to a)
-put_one l to a = record { behind = refl; output = refl }
-
-pub put_two : (l : List ℕ) (to a b : ℕ) → Put l to (a ∷ b ∷ []) (to + 2) (set (set l to a) (to + 1) b)
-put_two l to a b = record { behind = refl; output = rw add-one }
-
-pub put_three : (l : List ℕ) (to a b c : ℕ) → Put l to (a ∷ b ∷ c ∷ []) (to + 3) (set (set (set l to a) (to + 1) b) (to + 2) c)
-put_three l to a b c = record { behind = refl; output = rw (add-one, add-two) }
 
 -- nothing
 pub put_nothing : (l : List ℕ) (to : ℕ) → Put l to [] to l
