@@ -1,5 +1,4 @@
--- Choices: what holds of both branches holds of the choice; one of two numbers is below the other or not, and equal to it or not; a
--- choice between two of the same.
+-- Choices: one of two numbers is below the other or not, and equal to it or not; a choice between two of the same.
 -- Assumes nothing.
 use mathlib.Core.Path.{◌≡◌, refl}
 use mathlib.Core.Bool.{Bool, true, false, cond}
@@ -7,10 +6,6 @@ use Prim.Native.Nat.{ℕ, ◌≤◌, ◌<◌}
 use mathlib.Core.Logic.{◌⊎◌, inl, inr, ⊎_elim}
 use borrow.Author.Tests.{leb-true, leb-false, eqb-true, eqb-false}
 use lib.Dec.{leb, eqb}
-
-pub by_cases : {A : Type 0} (P : A → Type 0) (b : Bool) (x y : A) → (b ≡ true → P x) → (b ≡ false → P y) → P (cond b x y)
-by_cases P true x y f g = f refl
-by_cases P false x y f g = g refl
 
 pub below_or : (a b : ℕ) → (a < b) ⊎ (b ≤ a)
 below_or a b = go (leb b a) refl

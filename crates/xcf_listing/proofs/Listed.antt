@@ -13,13 +13,14 @@ use borrow.Author.Tests.{le-leb, lt-leb, eq-eqb, ne_eqb, leb-true}
 use lib.Dec.{leb, eqb}
 use lib.ListN.{length, drop, length-append}
 use lib.Seq.{sets-eq, length-take-le}
+use Rattle.std.proofs.lemmas.Bool.{cond_both}
 use Rattle.xcf_numbers.specs.Limit.{file_limit, table_rows, table_size}
 use Rattle.xcf_numbers.specs.Kind
 use Rattle.xcf_numbers.specs.Refusal
 use Rattle.io.specs.Counts.{IsPrefixLen}
 use Rattle.xcf_store.specs.Put.{PutWithin}
 use Rattle.xcf_walk.specs.Walk.{Outcome, got, refused, run}
-use Rattle.xcf_laws.proofs.Cases.{below_or, by_cases}
+use Rattle.xcf_laws.proofs.Cases.{below_or}
 use Rattle.xcf_table.specs.Table.{row_at}
 use Rattle.xcf_read.specs.declared.ReadAnswer.{ReadAnswer}
 use Rattle.xcf_read.specs.Image.{Image, image}
@@ -57,8 +58,8 @@ listable file table read n =
 no_rows : (file table : List ℕ) → ((reading file table).answer.number ≡ 0 → ⊥) → (reading file table).answer.rows ≡ 0
 unfolding reading
 no_rows file table =
-    by_cases Says (eqb (length table) table_size) _ _
-    (λ _. by_cases Says (leb (length file) file_limit) _ _ (λ _. walked (run image file 0)) (λ _ _. refl))
+    cond_both (eqb (length table) table_size) _ _ Says
+    (λ _. cond_both (leb (length file) file_limit) _ _ Says (λ _. walked (run image file 0)) (λ _ _. refl))
     (λ _ _. refl)
   where
     Says : Reading → Type 0
@@ -132,7 +133,7 @@ module _ (limit : ℕ) (file table text : List ℕ) where
 listing_inside : (limit : ℕ) (file table text : List ℕ) → let x = listing limit file table text in x.answer.length ≤ length x.text
 unfolding listing answer_of
 listing_inside limit file table text =
-    by_cases (λ (x : Listing). x.answer.length ≤ length x.text) (lent_fits (length table) (length text)) _ _
+    cond_both (lent_fits (length table) (length text)) _ _ (λ (x : Listing). x.answer.length ≤ length x.text)
     (λ _. simp length-append (omega arith)) (λ _. omega arith)
 
 -- the bytes of the listing are counted, so that a caller can take them

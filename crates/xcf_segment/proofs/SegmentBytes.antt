@@ -8,7 +8,7 @@ use native.Mathlib.Omega.{arith}
 use borrow.Author.Tests.{le-leb, lt-leb}
 use lib.ListN.{length, length-append}
 use lib.Dec.{leb}
-use Rattle.xcf_laws.proofs.Cases.{by_cases}
+use Rattle.std.proofs.lemmas.Bool.{cond_both}
 use Rattle.xcf_segment.specs.Segment.{head_bytes, run_of, copy_of, segment_bytes}
 use Rattle.xcf_segment.specs.Parts.{head_size}
 
@@ -21,7 +21,7 @@ pub head_length : (count short long : ℕ) → length (head_bytes count short lo
 head_length count short long = by_test (leb count 127) short long (count / 256) (count % 256)
 
 pub head_small : (count : ℕ) → head_size count ≤ 3
-head_small count = by_cases (λ n. n ≤ 3) (leb count 127) 1 3 (λ _. omega arith) (λ _. omega arith)
+head_small count = cond_both (leb count 127) 1 3 (λ n. n ≤ 3) (λ _. omega arith) (λ _. omega arith)
 
 pub run_length : (count value : ℕ) → length (segment_bytes (run_of count value)) ≡ head_size count + 1
 unfolding segment_bytes

@@ -11,14 +11,14 @@ use native.Mathlib.Omega.{arith}
 use borrow.Author.Tests.{eq-eqb, leb-true}
 use lib.ListN.{length, get_or, take, drop, length-take, length-drop}
 use lib.Dec.{leb, eqb}
-use Rattle.xcf_laws.proofs.Cases.{by_cases}
+use Rattle.std.proofs.lemmas.Bool.{cond_both}
 use Rattle.xcf_segment.specs.Segment.{leading, equal_bytes, copied_bytes, Segment, run_of, copy_of, size_of, first_segment, segments_within, segments, segment_bytes, encode_stream}
 
 pub leading_inside : (v : ℕ) (xs : List ℕ) → leading v xs ≤ length xs
 unfolding leading
 leading_inside v [] = omega arith
 leading_inside v (x ∷ xs) =
-    by_cases (λ n. n ≤ suc (length xs)) (eqb x v) _ _ (λ _. omega (arith, leading_inside v xs)) (λ _. omega arith)
+    cond_both (eqb x v) _ _ (λ n. n ≤ suc (length xs)) (λ _. omega (arith, leading_inside v xs)) (λ _. omega arith)
 
 pub equal_inside : (xs : List ℕ) → equal_bytes xs ≤ length xs
 unfolding equal_bytes
@@ -35,7 +35,7 @@ pub copied_inside : (xs : List ℕ) → copied_bytes xs ≤ length xs
 unfolding copied_bytes
 copied_inside [] = omega arith
 copied_inside (x ∷ xs) =
-    by_cases (λ n. n ≤ suc (length xs)) (leb 3 (equal_bytes (x ∷ xs))) _ _ (λ _. omega arith) (λ _. omega (arith, copied_inside xs))
+    cond_both (leb 3 (equal_bytes (x ∷ xs))) _ _ (λ n. n ≤ suc (length xs)) (λ _. omega arith) (λ _. omega (arith, copied_inside xs))
 
 -- a copy has the bytes that it says
 pub copied_length : (xs : List ℕ) → length (take (copied_bytes xs) xs) ≡ copied_bytes xs
@@ -58,7 +58,7 @@ first_copy xs e = rw e
 -- the first segment: a run or a copy
 pub first : (P : Segment → Type 0) (xs : List ℕ) → (3 ≤ equal_bytes xs → P (run_of (equal_bytes xs) (get_or xs 0 0))) → (leb 3 (equal_bytes xs) ≡ false → P (copy_of (take (copied_bytes xs) xs))) → P (first_segment xs)
 unfolding first_segment
-first P xs f g = by_cases P (leb 3 (equal_bytes xs)) _ _ (λ e. f (leb-true _ _ e)) g
+first P xs f g = cond_both (leb 3 (equal_bytes xs)) _ _ P (λ e. f (leb-true _ _ e)) g
 
 pub first_some : (xs : List ℕ) → 0 < length xs → 0 < size_of (first_segment xs)
 first_some xs h =

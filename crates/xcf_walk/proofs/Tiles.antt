@@ -13,13 +13,13 @@ use lib.Dec.{leb, ltb, eqb}
 use lib.ListN.{length}
 use Rattle.std.specs.Prelude.{Result, Ok, Err}
 use Rattle.std.specs.Result.{IsErrAnd}
+use Rattle.std.proofs.lemmas.Bool.{cond_both}
 use Rattle.xcf_numbers.specs.Refusal
 use Rattle.xcf_numbers.specs.declared.reason.Refusal.{Refusal as Refused}
 use Rattle.xcf_store.specs.declared.rising.Rising.{Rising}
 use Rattle.xcf_store.specs.Pointer.{number_at}
 use Rattle.xcf_store.specs.Rising.{rises, rising}
 use Rattle.xcf_store.proofs.Risen.{Risen, risen}
-use Rattle.xcf_laws.proofs.Cases.{by_cases}
 use Rattle.xcf_walk.specs.declared.cursor.Cursor.{Cursor}
 use Rattle.xcf_walk.specs.Walk.{got, refused, run, bytes, must}
 use Rattle.xcf_walk.specs.Fields.{number}
@@ -54,7 +54,7 @@ past_rising : (size : ℕ) (f : List ℕ) (n at before : ℕ) → Past size f n 
 unfolding rising
 past_rising size f zero at before = none_past size f zero at before
 past_rising size f (suc n) at before =
-    by_cases (λ r. Past size f (suc n) at before r) (rises size f at before) _ _ (λ e. one_past size f n at before _ e (past_rising size f n (at + size) (number_at size f at))) (λ _. none_past size f (suc n) at before)
+    cond_both (rises size f at before) _ _ (λ r. Past size f (suc n) at before r) (λ e. one_past size f n at before _ e (past_rising size f n (at + size) (number_at size f at))) (λ _. none_past size f (suc n) at before)
 
 -- the pointers that rise end in the file, or where they begin
 pub rising_ends : (size : ℕ) (f : List ℕ) (at n : ℕ) {r : Rising} → r ≡ rising size f at n 0 → (at + size * r.count ≤ length f) ⊎ (at + size * r.count ≡ at)
