@@ -9,7 +9,8 @@ use xcf_grid::put::put_tile;
 use xcf_numbers::limit::TILE_SIZE;
 use xcf_window::drawable::Drawable;
 
-// Every tile of the drawable: its pixels and its mark; and how many marks are not zero.
+// Every tile of the drawable: its pixels and its mark; and how many marks are not zero. The marks are set by their index: the
+// library says nothing of what a slice holds after a loop over `iter_mut()` zipped with another.
 fn decode_tiles(
     drawable: &Drawable<'_>,
     pixels: &mut [u8],

@@ -11,7 +11,8 @@ use crate::scatter::put;
 use xcf_numbers::fault::Fault;
 use xcf_operation::operation_at;
 
-// The place behind, or the operation that fails and its fault; and the operations carried out in full.
+// The place behind, or that of the operation that fails, with its fault; and the operations carried out in full. Place and count
+// stand beside a fault too, so this is no Result.
 #[derive(Clone, Copy)]
 pub struct StreamEnd {
     pub fault: Option<Fault>,

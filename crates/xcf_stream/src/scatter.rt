@@ -1,4 +1,5 @@
-// Bytes put into a pixel buffer at every `step`-th place.
+// Bytes put into a pixel buffer at every `step`-th place. The loops keep the place: the library says nothing of what a slice holds
+// after a loop over `iter_mut().step_by(step)`.
 ghost use Rattle.std.specs.Prelude.{◌≡◌, ◌+◌, ◌*◌, length, replicate};
 ghost use Rattle.xcf_operation.specs.Parts.{given};
 ghost use Rattle.xcf_stream.specs.Parts.{scatter, StepRoom};

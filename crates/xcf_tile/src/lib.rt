@@ -87,7 +87,7 @@ fn cut(window: &[u8]) -> &[u8]
     &window[..WINDOW_LIMIT.min(window.len())]
 }
 
-// The tile of n pixels in a window, of which so many bytes count.
+// The tile of n pixels in a window, which is cut.
 #[tactic(auto, unfolding(crate::specs::Tile::tile_in))]
 pub fn decode(
     window: &[u8],
