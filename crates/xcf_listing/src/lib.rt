@@ -7,15 +7,17 @@ mod rows;
 ghost use Rattle.std.specs.Prelude.{◌≡◌, ◌+◌, ◌++◌, ◌≤◌, length};
 ghost use Rattle.io.specs.Counts.{IsPrefixLen};
 ghost use Rattle.xcf_numbers.specs.Limit.{table_rows, table_size};
+ghost use Rattle.xcf_numbers.specs.Reason.{number_of};
 ghost use Rattle.xcf_store.specs.Put.{PutWithin};
 ghost use Rattle.xcf_text.specs.Stores.{StoresWithin};
 ghost use Rattle.xcf_line.specs.Line.{refused_line, canvas_line};
-ghost use Rattle.xcf_listing.specs.Listing.{row_lines, marked_tiles, text_size, list_answer, not_listed, Lists};
+ghost use Rattle.xcf_listing.specs.Listing.{row_lines, marked_tiles, text_size, list_answer, Lists};
 
 use crate::rows::put_rows;
 use xcf_line::{put_canvas, put_refusal};
 use xcf_numbers::limit::TABLE_SIZE;
-use xcf_numbers::refusal;
+use xcf_numbers::reason::Reason;
+use xcf_numbers::refusal::ACCEPTED;
 use xcf_read::ReadAnswer;
 use xcf_store::output::Output;
 
@@ -43,16 +45,18 @@ pub struct ListAnswer {
 }
 
 // The call's own refusal.
-fn not_listed() -> ListAnswer
-    ensures { result ≡ not_listed }
-{
-    ListAnswer {
-        number: refusal::WRONG_BUFFER,
-        place: 0,
-        refused: 0,
-        at: 0,
-        marked: 0,
-        length: 0,
+impl From<Reason> for ListAnswer {
+    ghost from_gives = { λ e r. r ≡ record { number = number_of e; place = 0; refused = 0; at = 0; marked = 0; length = 0 } };
+
+    fn from(reason: Reason) -> ListAnswer {
+        ListAnswer {
+            number: reason.into(),
+            place: 0,
+            refused: 0,
+            at: 0,
+            marked: 0,
+            length: 0,
+        }
     }
 }
 
@@ -61,7 +65,7 @@ fn list_answer(refused: u64, at: u64, marked: u64, length: usize) -> ListAnswer
     ensures { result ≡ list_answer refused at marked length }
 {
     ListAnswer {
-        number: refusal::ACCEPTED,
+        number: ACCEPTED,
         place: 0,
         refused,
         at,
@@ -113,13 +117,13 @@ pub fn list(file: &[u8], limit: usize, table: &mut [u32], text: &mut [u8]) -> Li
     ensures prefix_len { IsPrefixLen result.length text.new }
 {
     if table.len() != TABLE_SIZE || text.len() < TEXT_SIZE {
-        return not_listed();
+        return Reason::WrongBuffer.into();
     }
     if limit < file.len() {
-        return list_refused(text, refusal::TOO_LONG, 0);
+        return list_refused(text, Reason::TooLong.into(), 0);
     }
     let answer = xcf_read::read(file, table);
-    if answer.number != refusal::ACCEPTED {
+    if answer.number != ACCEPTED {
         return list_refused(text, answer.number, answer.place);
     }
     list_accepted(file, table, answer, text)

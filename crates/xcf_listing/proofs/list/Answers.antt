@@ -5,11 +5,12 @@ use Rattle.xcf_listing.proofs.list.Goals as goal
 
 pub returns-then-table-ne-TABLE_SIZE-clause-lists : goal.returns-then-table-ne-TABLE_SIZE-clause-lists
 returns-then-table-ne-TABLE_SIZE-clause-lists c =
-    lists_none _ _ _ _ (fits_not _ _ c.then-table-ne-TABLE_SIZE.either) c.not_listed.ensures
+    lists_none _ _ _ _ (fits_not _ _ c.then-table-ne-TABLE_SIZE.either) c.into.ensures
 
 pub returns-then-limit-file-clause-lists : goal.returns-then-limit-file-clause-lists
 returns-then-limit-file-clause-lists c =
-    lists_long _ _ _ _ (fits_both _ _ c.if-table-ne-TABLE_SIZE.false c.if-text-lt-TEXT_SIZE.false) c.if-limit-file.true c.list_refused.ensures.value c.list_refused.ensures.put_within
+    lists_long _ _ _ _ (fits_both _ _ c.if-table-ne-TABLE_SIZE.false c.if-text-lt-TEXT_SIZE.false) c.if-limit-file.true
+    (rw c.into-then-limit-file.ensures at c.list_refused.ensures.value) (rw c.into-then-limit-file.ensures at c.list_refused.ensures.put_within)
 
 pub returns-then-answer-ne-ACCEPTED-clause-lists : goal.returns-then-answer-ne-ACCEPTED-clause-lists
 returns-then-answer-ne-ACCEPTED-clause-lists c =
