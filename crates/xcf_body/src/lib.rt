@@ -4,7 +4,7 @@
 ghost use Rattle.std.specs.Prelude.{◌≡◌, ◌+◌, ◌*◌, ◌≤◌, ◌<◌, length};
 ghost use Rattle.std.proofs.lemmas.List.Edits.{sets};
 ghost use Rattle.xcf_numbers.specs.Limit.{file_limit, table_rows, image_limit};
-ghost use Rattle.xcf_store.specs.Put.{Put};
+ghost use Rattle.xcf_store.specs.Output.{Stores};
 ghost use Rattle.xcf_table.specs.Table.{row_at};
 ghost use Rattle.xcf_drawable.specs.Drawing.{drawable_of};
 ghost use Rattle.xcf_body.specs.Rows.{drawables_bytes, places_from, pixels_size, row_drawable, drawables_from, used_rows};
@@ -14,6 +14,7 @@ ghost use Rattle.xcf_body.specs.Parts.{RowsInRange, RowReady, RowsReady, end_of,
 use xcf_drawable::Drawing;
 use xcf_numbers::kind;
 use xcf_numbers::limit::{PLACES_SIZE, TABLE_ROWS};
+use xcf_store::output::Output;
 use xcf_structure::Structure;
 use xcf_table::{Row, row_at};
 use xcf_usable::row::masked;
@@ -104,20 +105,20 @@ impl<'a> UsedRows<'a> {
         to
     }
 
-    // The rows' drawables from `start` on.
-    pub fn put(&self, output: &mut [u8], start: usize, places: &[usize; PLACES_SIZE]) -> usize
-        requires placed { Placed places.now 0 (drawables_from self.now.table.now self.now.used 0 self.now.names.now self.now.pixels.now) start }
-        requires start_in_bounds { (end_of (drawables_from self.now.table.now self.now.used 0 self.now.names.now self.now.pixels.now) start ≤ length output.old) × (end_of (drawables_from self.now.table.now self.now.used 0 self.now.names.now self.now.pixels.now) start ≤ file_limit) }
-        ensures { Put output.old start (drawables_bytes (drawables_from self.now.table.now self.now.used 0 self.now.names.now self.now.pixels.now) start) result output.new }
+    // The rows' drawables.
+    pub fn put(&self, output: &mut Output<'_>, places: &[usize; PLACES_SIZE])
+        requires placed { Placed places.now 0 (drawables_from self.now.table.now self.now.used 0 self.now.names.now self.now.pixels.now) output.old.at }
+        requires room { end_of (drawables_from self.now.table.now self.now.used 0 self.now.names.now self.now.pixels.now) output.old.at ≤ length output.old.bytes.now }
+        requires low { end_of (drawables_from self.now.table.now self.now.used 0 self.now.names.now self.now.pixels.now) output.old.at ≤ file_limit }
+        ensures stores { Stores output.old (drawables_bytes (drawables_from self.now.table.now self.now.used 0 self.now.names.now self.now.pixels.now) output.old.at) output.new }
+        ensures same { output.new.bytes.ghost_name ≡ output.old.bytes.ghost_name }
     {
         let mut at: usize = 0;
-        let mut to = start;
         for k in 0..self.used {
             let end = pixels_end(self.table, k, at);
             let next = places[k as usize + 1];
-            to = self.drawing(k, &self.pixels[at..end]).put(output, to, next);
+            self.drawing(k, &self.pixels[at..end]).put(output, next);
             at = end;
         }
-        to
     }
 }

@@ -4,7 +4,6 @@
 ghost use Rattle.std.specs.Prelude.{◌≡◌, cond, [], ◌∷◌, ◌++◌, ◌+◌, ◌≤◌, length, get_or};
 ghost use Rattle.xcf_numbers.specs.Limit.{table_rows, image_limit};
 ghost use Rattle.xcf_store.specs.Output.{Stores};
-ghost use Rattle.xcf_store.specs.Put.{Put};
 ghost use Rattle.xcf_parse.specs.Header.{tags};
 ghost use Rattle.xcf_store.specs.Word.{words};
 ghost use Rattle.xcf_image.specs.Image.{version_of, kind_places, image_of};
@@ -79,7 +78,7 @@ impl Image<'_> {
     }
 
     // The image's structure.
-    pub fn put_into(&self, output: &mut Output<'_>, places: &[usize; PLACES_SIZE])
+    pub fn put(&self, output: &mut Output<'_>, places: &[usize; PLACES_SIZE])
         requires low_places { LowPlaces places.now self.now.used }
         requires room { output.old.at + length (image_of self.now.canvas (rows_from self.now.table.now self.now.used 0) places.now) ≤ length output.old.bytes.now }
         ensures stores { Stores output.old (image_of self.now.canvas (rows_from self.now.table.now self.now.used 0) places.now) output.new }
@@ -99,19 +98,5 @@ impl Image<'_> {
         output.words(&[property_type::END, 0]);
         self.put_pointers(output, kind::LAYER, places);
         self.put_pointers(output, kind::CHANNEL, places);
-    }
-
-    // The image's structure at the output's start.
-    pub fn put(&self, output: &mut [u8], places: &[usize; PLACES_SIZE]) -> usize
-        requires low_places { LowPlaces places.now self.now.used }
-        requires places_in_bounds { length (image_of self.now.canvas (rows_from self.now.table.now self.now.used 0) places.now) ≤ length output.old }
-        ensures { Put output.old 0 (image_of self.now.canvas (rows_from self.now.table.now self.now.used 0) places.now) result output.new }
-    {
-        let mut front = Output {
-            bytes: output,
-            at: 0,
-        };
-        self.put_into(&mut front, places);
-        front.at
     }
 }

@@ -2,12 +2,12 @@
 -- induction on the bytes. `Put` says it with the place behind the bytes, `PutWithin` with a bound on how many they are.
 -- Assumes nothing.
 use mathlib.Core.Path.{◌≡◌, refl, sym, ap, ◌∙◌}
-use mathlib.Core.List.{List, [], ◌∷◌, ◌++◌, append_assoc}
+use mathlib.Core.List.{List, [], ◌∷◌, ◌++◌, append_assoc, append-nil}
 use Prim.Native.Nat.{ℕ, suc, ◌+◌, ◌*◌, ◌≤◌}
 use native.Mathlib.Nat.{add-zero, zero-add, le_refl}
 use native.Mathlib.Omega.{arith}
-use lib.ListN.{length, take, drop, set, length-append, length-take, length-drop, take-append-drop}
-use lib.Seq.{sets, sets-eq, length-sets, take-length, drop-drop, drop-append-le}
+use lib.ListN.{length, take, drop, set, length-append, length-take, length-drop, take-append-drop, drop_of_length-le}
+use lib.Seq.{sets, sets-eq, length-sets, take-length, take-take, drop-drop, drop-append-le}
 use Rattle.xcf_store.specs.Put.{Put, PutWithin}
 
 -- xs and then ys
@@ -66,6 +66,23 @@ put_part {l} {a} {k} {bs} p h s = record {
   behind = omega (arith, p.behind);
   output = rw p.output (part_sets l a k bs h s);
 }
+
+-- what is put in front of the place where a list is cut, and up to it, and what is put at the start behind it, are put one behind the other
+pub put_halves : {l : List ℕ} {n at : ℕ} {xs : List ℕ} {r : ℕ} {front ys : List ℕ} {r' : ℕ} {behind : List ℕ} → Put (take n l) at xs r front → r ≡ n
+    → n ≤ length l → Put (drop n l) 0 ys r' behind → n + length ys ≤ length l → Put l at (xs ++ ys) (n + r') (front ++ behind)
+put_halves {l} {n} {at} {xs} {r} {front} {ys} {r'} {behind} p e h q room =
+    let reaches : at + length xs ≡ n = sym p.behind ∙ e in
+    let long : length (take n l) ≡ n = rw length-take (omega arith) in
+    let rest = length-drop n l in
+    let whole : at + length (xs ++ ys) ≡ n + length ys = rw length-append (omega arith) in
+    let head : take at (take n l) ≡ take at l = take-take at n l (omega arith) in
+    let none : drop (at + length xs) (take n l) ≡ [] = drop_of_length-le (take n l) {i = at + length xs} (omega arith) in
+    record {
+      behind = omega (arith, q.behind, whole);
+      output =
+          rw (p.output, q.output, sets-eq xs (take n l) at (omega arith), sets-eq ys (drop n l) 0 (omega arith), head, none, append-nil, zero-add, drop-drop)
+          (rw (sets-eq (xs ++ ys) l at (omega arith), whole) (simp append_assoc));
+    }
 
 -- stores change no length
 pub put_length : {old : List ℕ} {to : ℕ} {bs : List ℕ} {r : ℕ} {new : List ℕ} → Put old to bs r new → length new ≡ length old

@@ -3,6 +3,5 @@
 
 pub mod output;
 pub mod pointer;
-pub mod put;
 pub mod rising;
 pub mod word;

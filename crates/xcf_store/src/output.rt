@@ -3,8 +3,6 @@ ghost use Rattle.std.specs.Prelude.{[], ◌∷◌, ◌≡◌, ◌+◌, ◌*◌, 
 ghost use Rattle.xcf_store.specs.Output.{Stores};
 ghost use Rattle.xcf_store.specs.Word.{word_bytes, words, when};
 
-use crate::put::{put_bytes, put_word, put_words};
-
 // Lent bytes, and the place that the next ones go to.
 #[derive(Drop)]
 pub struct Output<'a> {
@@ -27,7 +25,7 @@ impl<'a> Output<'a> {
         ensures stores { Stores self.old (word_bytes n) self.new }
         ensures same { self.new.bytes.ghost_name ≡ self.old.bytes.ghost_name }
     {
-        self.at = put_word(self.bytes, self.at, n);
+        self.bytes(&n.to_be_bytes());
     }
 
     pub fn words(&mut self, numbers: &[u32])
@@ -35,7 +33,9 @@ impl<'a> Output<'a> {
         ensures stores { Stores self.old (words numbers.now) self.new }
         ensures same { self.new.bytes.ghost_name ≡ self.old.bytes.ghost_name }
     {
-        self.at = put_words(self.bytes, self.at, numbers);
+        for n in numbers {
+            self.word(*n);
+        }
     }
 
     // The words, where the test holds.
@@ -54,6 +54,8 @@ impl<'a> Output<'a> {
         ensures stores { Stores self.old content.now self.new }
         ensures same { self.new.bytes.ghost_name ≡ self.old.bytes.ghost_name }
     {
-        self.at = put_bytes(self.bytes, self.at, content);
+        let end = self.at + content.len();
+        self.bytes[self.at..end].copy_from_slice(content);
+        self.at = end;
     }
 }

@@ -4,7 +4,6 @@
 ghost use Rattle.std.specs.Prelude.{◌≡◌, ◌+◌, ◌≤◌, length};
 ghost use Rattle.xcf_numbers.specs.Limit.{name_limit};
 ghost use Rattle.xcf_store.specs.Output.{Stores};
-ghost use Rattle.xcf_store.specs.Put.{Put};
 ghost use Rattle.xcf_structure.specs.Structure.{name_bytes, list_bytes, drawable_properties, structure_bytes, properties_limit, structure_limit};
 
 use xcf_numbers::flag::{flag_of, flag_set};
@@ -106,7 +105,7 @@ impl Structure<'_> {
     }
 
     // The structure, with the pointers to the drawable's hierarchy and its mask.
-    pub fn put_into(&self, output: &mut Output<'_>, hierarchy: u32, mask: u32)
+    pub fn put(&self, output: &mut Output<'_>, hierarchy: u32, mask: u32)
         requires { output.old.at + length (structure_bytes self.now.row self.now.masked self.now.name.now hierarchy mask) ≤ length output.old.bytes.now }
         ensures stores { Stores output.old (structure_bytes self.now.row self.now.masked self.now.name.now hierarchy mask) output.new }
         ensures same { output.new.bytes.ghost_name ≡ output.old.bytes.ghost_name }
@@ -118,18 +117,5 @@ impl Structure<'_> {
         self.put_list(output);
         output.word(hierarchy);
         output.words_when(row.kind == kind::LAYER, &[mask]);
-    }
-
-    // The same, from a place on.
-    pub fn put(&self, output: &mut [u8], to: usize, hierarchy: u32, mask: u32) -> usize
-        requires { to + length (structure_bytes self.now.row self.now.masked self.now.name.now hierarchy mask) ≤ length output.old }
-        ensures { Put output.old to (structure_bytes self.now.row self.now.masked self.now.name.now hierarchy mask) result output.new }
-    {
-        let mut from = Output {
-            bytes: output,
-            at: to,
-        };
-        self.put_into(&mut from, hierarchy, mask);
-        from.at
     }
 }

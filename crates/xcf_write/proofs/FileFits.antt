@@ -44,12 +44,12 @@ module _ (c : Canvas) (table names pixels old : List ℕ) (n : ℕ) (e : n ≡ u
   size_is : size ≡ length (file_of c table names pixels)
   size_is = m ∙ sym (file_length_lem c (drawables_from table n 0 names pixels) s) ∙ ap length file_is
 
-  pub fits : {end : ℕ} {new : List ℕ} → size ≤ length old → size ≤ file_limit
-      → Put old 0 (file_bytes c (drawables_from table n 0 names pixels)) end new
+  pub fits : {end : ℕ} {stored_in new : List ℕ} → size ≤ length old → size ≤ file_limit
+      → Put old 0 (file_bytes c (drawables_from table n 0 names pixels)) end stored_in → new ≡ stored_in
       → Fitted c table names pixels old (answered Refusal.accepted 0 size) new
-  fits within low p =
+  fits within low p z =
       let tested = size_fits size (length old) within low in
-      rw size_is
+      rw (z, size_is)
       (fitted c table names pixels old (rw size_is at tested) (stored (omega (arith, size_is)) (rw file_is at p)))
 
   pub fits_not : (length old < size) ⊎ ((size ≤ length old) × (file_limit < size)) → Fitted c table names pixels old (answered Refusal.no_room 0 0) old

@@ -77,6 +77,11 @@ module _ (table names pixels : List ℕ) (n : ℕ) (c : Canvas) where
   pub image_there : (places : List ℕ) → length (image_of c (rows_from table n 0) places) ≡ image_size c ds
   image_there places = image_same c (rows_from table n 0) places ∙ sym start_is
 
+  -- and behind it the drawables begin
+  pub behind_image : (places : List ℕ) {start : ℕ} {old : List ℕ} {q : ℕ} {new : List ℕ} → start ≡ length (image_of c (rows_from table n 0) [])
+      → Put old 0 (image_of c (rows_from table n 0) places) q new → q ≡ start
+  behind_image places e p = omega (arith, p.behind, image_there places, start_is, e)
+
 -- drawables end where their bytes do
 bytes_end : (ds : List Drawable) (p : ℕ) → end_of ds p ≡ p + length (drawables_bytes ds p)
 unfolding end_of drawables_bytes

@@ -8,6 +8,7 @@ use xcf_body::UsedRows;
 use xcf_image::Image;
 use xcf_numbers::limit::{FILE_LIMIT, PLACES_SIZE};
 use xcf_numbers::reason::{Reason, Refusal};
+use xcf_store::output::Output;
 use xcf_table::canvas::Canvas;
 
 // The file of the used rows at the output's start, and its length.
@@ -33,7 +34,11 @@ pub(crate) fn write_file(
             place: 0,
         });
     }
-    image.put(output, &places);
-    rows.put(output, start, &places);
+    let mut front = Output {
+        bytes: output,
+        at: 0,
+    };
+    image.put(&mut front, &places);
+    rows.put(&mut front, &places);
     Ok(size)
 }

@@ -1,4 +1,5 @@
 -- `put` meets its contract: `Putting` holds at the loop's head.
+use mathlib.Core.Path.{◌∙◌}
 use native.Mathlib.Omega.{arith}
 use Rattle.xcf_body.proofs.RowsLeft.{row_room, row_lent_lem}
 use Rattle.xcf_body.proofs.RowsStored.{next_place, putting_next, all_put}
@@ -7,23 +8,26 @@ use Rattle.xcf_body.proofs.UsedRows.put.Goals as goal
 pub slice_bounds-drawing-end : goal.slice_bounds-drawing-end
 slice_bounds-drawing-end c =
     let e = c.pixels_end-end.ensures.0 in
-    omega (arith, e, row_lent_lem _ _ _ _ _ c.loop-k.invariant.rows c.loop-k-test.true e c.args.self.now.ready)
+    omega (arith, e, row_lent_lem _ _ _ _ _ c.loop-k.invariant.stored.rows c.loop-k-test.true e c.args.self.now.ready)
 
-pub put-to-requires-clause-end_value : goal.put-to-requires-clause-end_value
-put-to-requires-clause-end_value c =
-    rw c.drawing.ensures (next_place _ _ _ _ _ _ _ c.loop-k.invariant c.loop-k-test.true c.pixels_end-end.ensures.0)
+pub put-requires-clause-end_value : goal.put-requires-clause-end_value
+put-requires-clause-end_value c =
+    rw c.drawing.ensures (next_place _ _ _ _ _ _ _ c.loop-k.invariant.stored c.loop-k-test.true c.pixels_end-end.ensures.0)
 
-pub put-to-requires-clause-space : goal.put-to-requires-clause-space
-put-to-requires-clause-space c =
-    let i = c.loop-k.invariant in
-    let within = c.requires.start_in_bounds in
+pub put-requires-clause-space : goal.put-requires-clause-space
+put-requires-clause-space c =
+    let i = c.loop-k.invariant.stored in
     let most = row_room _ _ _ _ _ i.rows c.loop-k-test.true c.pixels_end-end.ensures.0 in
-    rw c.drawing.ensures (record { room = omega (arith, most, within, i.long); low = omega (arith, most, within) })
+    rw c.drawing.ensures (record { room = omega (arith, most, c.requires.room, i.long); low = omega (arith, most, c.requires.low) })
 
 pub loop-k-preserved : goal.loop-k-preserved
 loop-k-preserved c =
     let e = c.pixels_end-end.ensures in
-    putting_next _ _ _ _ _ _ _ c.loop-k.invariant c.loop-k-test.true e.0 e.1 (rw c.drawing.ensures at c.put-to.ensures)
+    let i = c.loop-k.invariant in
+    record {
+      stored = putting_next _ _ _ _ _ _ _ i.stored c.loop-k-test.true e.0 e.1 (rw c.drawing.ensures at c.put.ensures.stores);
+      same = c.put.ensures.same ∙ i.same;
+    }
 
-pub returns : goal.returns
-returns c = all_put _ _ _ _ _ _ _ c.loop-k.invariant c.loop-k-test.false
+pub returns-clause-stores : goal.returns-clause-stores
+returns-clause-stores c = all_put _ _ _ _ _ _ _ c.loop-k.invariant.stored c.loop-k-test.false

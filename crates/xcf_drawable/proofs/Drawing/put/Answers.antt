@@ -10,19 +10,19 @@ put-requires c =
     let a = c.args in
     structure_room a.self.now.structure.row a.self.now.structure.masked a.self.now.structure.name.now a.self.now.pixels.now c.requires.space _ _
 
-pub put_words-requires : goal.put_words-requires
-put_words-requires c =
+pub words-requires : goal.words-requires
+words-requires c =
     let a = c.args in
-    hierarchy_room a.self.now.structure.row a.self.now.structure.masked a.self.now.structure.name.now a.self.now.pixels.now c.requires.space c.mask_place-mask.result c.size.ensures.0 c.put.ensures
+    hierarchy_room a.self.now.structure.row a.self.now.structure.masked a.self.now.structure.name.now a.self.now.pixels.now c.requires.space c.mask_place-mask.result c.size.ensures.0 c.put.ensures.stores
 
 pub put_level-requires : goal.put_level-requires
 put_level-requires c =
     let a = c.args in
-    level_space a.self.now.structure.row a.self.now.structure.masked a.self.now.structure.name.now a.self.now.pixels.now c.requires.space c.mask_place-mask.result c.size.ensures.0 c.put.ensures c.put_words.ensures
+    level_space a.self.now.structure.row a.self.now.structure.masked a.self.now.structure.name.now a.self.now.pixels.now c.requires.space c.mask_place-mask.result c.size.ensures.0 c.put.ensures.stores c.words.ensures.stores
 
-pub returns : goal.returns
-returns c =
+pub returns-clause-stores : goal.returns-clause-stores
+returns-clause-stores c =
     let a = c.args in
     drawable_put a.self.now.structure.row a.self.now.structure.masked a.self.now.structure.name.now a.self.now.pixels.now c.requires.space c.mask_place-mask.result
-    c.size.ensures.0 c.put.ensures
-    c.put_words.ensures (c.mask_place-mask.ensures ∙ ap (λ (e : ℕ). cond a.self.now.structure.masked e 0) c.requires.end_value) c.put_level.ensures
+    c.size.ensures.0 c.put.ensures.stores
+    c.words.ensures.stores (c.mask_place-mask.ensures ∙ ap (λ (e : ℕ). cond a.self.now.structure.masked e 0) c.requires.end_value) c.put_level.ensures.stores

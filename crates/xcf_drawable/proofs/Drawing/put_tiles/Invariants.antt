@@ -6,5 +6,9 @@ use Rattle.xcf_drawable.proofs.TilesStored.{Storing}
 use Rattle.xcf_drawable.proofs.Drawing.put_tiles.Given as goal
 
 abbrev pub invariant-loop-t : goal.invariant-loop-t
-invariant-loop-t l =
-    Storing l.self.structure.row l.self.pixels.now l.initial.output l.link l.first l.output l.t l.at l.to × (length l.tile ≡ tile_size)
+invariant-loop-t l = record {
+  stored : Storing l.self.structure.row l.self.pixels.now l.first l.initial.links l.initial.tiles l.t l.links l.tiles;
+  tile : length l.tile ≡ tile_size;
+  same_links : l.links.bytes.ghost_name ≡ l.initial.links.bytes.ghost_name;
+  same_tiles : l.tiles.bytes.ghost_name ≡ l.initial.tiles.bytes.ghost_name;
+}

@@ -4,7 +4,7 @@ use lib.ListN.{length-append}
 use Rattle.xcf_store.proofs.Words.{word_length, words_length}
 use Rattle.xcf_structure.proofs.StructureLength.{structure_words}
 use Rattle.xcf_structure.proofs.PartsStored.{parts_first, parts_next}
-use Rattle.xcf_structure.proofs.Structure.put_into.Goals as goal
+use Rattle.xcf_structure.proofs.Structure.put.Goals as goal
 
 pub words-requires : goal.words-requires
 words-requires c =

@@ -1,4 +1,4 @@
--- `put_into` meets its contract: its parts one behind the other, of which each leaves room for the others (`image_parts`).
+-- `put` meets its contract: its parts one behind the other, of which each leaves room for the others (`image_parts`).
 use Prim.Native.Nat.{ℕ, ◌+◌, ◌≤◌}
 use mathlib.Core.List.{List, [], ◌∷◌, ◌++◌}
 use native.Mathlib.Omega.{arith}
@@ -15,7 +15,7 @@ use Rattle.xcf_image.specs.Image.{version_of, kind_places, image_of}
 use Rattle.xcf_image.specs.Parts.{rows_from}
 use Rattle.xcf_image.proofs.ImageLength.{tag_length, version_old_or_new}
 use Rattle.xcf_image.proofs.ImageParts.{channels_on, layers_on, end_on, compression_on, sides_on, tag_on, magic_on, image_parts}
-use Rattle.xcf_image.proofs.Image.put_into.Goals as goal
+use Rattle.xcf_image.proofs.Image.put.Goals as goal
 
 -- what is left of the structure, before its first part and behind each
 abbrev Left : List ℕ → ℕ → Canvas → List Row → List ℕ → (Canvas → ℕ → List ℕ → List ℕ → List ℕ) → ℕ → List ℕ → Type 0
