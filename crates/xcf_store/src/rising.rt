@@ -39,7 +39,8 @@ fn pointers_in(file: &[u8], at: usize, n: u32, width: Width) -> u32
 }
 
 // Of n pointers that lie in the file, the whole pairs that rise: two are tested in one turn of the loop.
-fn rising_pairs(file: &[u8], at: usize, n: u32, width: Width) -> Rising
+#[inline(always)]
+fn pairs_by(file: &[u8], at: usize, n: u32, width: Width) -> Rising
     requires { 1 ≤ n → at + bytes_of width * n ≤ length file.now }
     ensures { RisingLeft (bytes_of width) file.now at n result.count result.last }
 {
@@ -62,6 +63,17 @@ fn rising_pairs(file: &[u8], at: usize, n: u32, width: Width) -> Rising
     Rising {
         count: 2 * pairs,
         last,
+    }
+}
+
+// `pairs_by`, with a loop of its own for each width: a place that goes on by a constant is faster.
+fn rising_pairs(file: &[u8], at: usize, n: u32, width: Width) -> Rising
+    requires { 1 ≤ n → at + bytes_of width * n ≤ length file.now }
+    ensures { RisingLeft (bytes_of width) file.now at n result.count result.last }
+{
+    match width {
+        Width::Narrow => pairs_by(file, at, n, Width::Narrow),
+        Width::Wide => pairs_by(file, at, n, Width::Wide),
     }
 }
 

@@ -1,4 +1,4 @@
--- `rising_pairs` meets its contract: `RisingLeft` holds at the loop's head of two pointers for each pair, and a pair that rises keeps it.
+-- `pairs_by` meets its contract: `RisingLeft` holds at the loop's head of two pointers for each pair, and a pair that rises keeps it.
 use Prim.Native.Nat.{◌+◌, ◌*◌, ◌≤◌}
 use mathlib.Core.Path.{◌≡◌}
 use mathlib.Mathlib.Data.Bool.Basic.{or-eq-false-eq-eq-false-and-eq-false}
@@ -8,7 +8,7 @@ use borrow.Author.Tests.{leb-false}
 use lib.ListN.{length}
 use Rattle.xcf_store.proofs.Sizes.{one_of}
 use Rattle.xcf_store.proofs.RisingLoop.{going_pair}
-use Rattle.xcf_store.proofs.rising.rising_pairs.Goals as goal
+use Rattle.xcf_store.proofs.rising.pairs_by.Goals as goal
 
 pub loop-pair-preserved : goal.loop-pair-preserved
 loop-pair-preserved c =
