@@ -82,7 +82,7 @@ fn read_fields(cursor: &mut Cursor, width: Width, list: ListKind) -> Result<Fiel
 {
     let name = cursor.string()?;
     let place = cursor.at;
-    let properties = cursor.properties(width, list, 0)?;
+    let properties = cursor.properties(width.bytes(), list, 0)?;
     let hierarchy = pointer(cursor, width)?;
     Ok(Fields {
         name,

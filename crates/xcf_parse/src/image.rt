@@ -82,7 +82,7 @@ pub fn read_head(cursor: &mut Cursor) -> Result<Head, Refusal>
     let pointer = pointer_width(version);
     // The list of an indexed image must hold a colour map.
     let unmapped = u32::from(base == base::INDEXED);
-    let p = cursor.properties(pointer, ListKind::Image, unmapped)?;
+    let p = cursor.properties(pointer.bytes(), ListKind::Image, unmapped)?;
     Ok(Head {
         version,
         width,

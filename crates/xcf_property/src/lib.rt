@@ -178,7 +178,7 @@ fn visible_unsaid(list: ListKind) -> u32
 }
 
 impl Properties {
-    // What stands beside a refusal.
+    // What a list says that says nothing: every number is 0.
     pub fn none() -> Properties
         ensures { result ≡ no_properties }
     {

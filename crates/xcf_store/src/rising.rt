@@ -52,6 +52,7 @@ fn pairs_by(file: &[u8], at: usize, n: u32, width: Width) -> Rising
         let place = at + size * (2 * pair as usize);
         let first = number_at(file, place, width);
         let second = number_at(file, place + size, width);
+        // By `|`: a branch for each test would cost more than the tests.
         if (first <= last) | (second <= first) | (end <= second) {
             return Rising {
                 count: 2 * pair,
@@ -88,6 +89,7 @@ pub fn rising_pointers(file: &[u8], at: usize, n: u32, width: Width) -> Rising
     let mut last = pairs.last;
     for count in pairs.count..most {
         let next = number_at(file, at + size * (count as usize), width);
+        // By `|`, as in a pair.
         if (next <= last) | (end <= next) {
             return Rising { count, last };
         }

@@ -32,10 +32,10 @@ pub(crate) fn drawable_ok(names: usize, row: Row) -> bool
     ensures { result ≡ drawable_ok names row }
 {
     let tiles = tile_count(row.width, row.height);
-    let name_end = row.name as u64 + row.namelen as u64;
+    let name_end = u64::from(row.name) + u64::from(row.namelen);
     side_ok(row.width)
         && side_ok(row.height)
-        && row.count as u64 == tiles
+        && u64::from(row.count) == tiles
         && row.opacity <= FULL_OPACITY
         && row.namelen <= NAME_LIMIT
         && name_end <= names as u64
@@ -103,7 +103,7 @@ impl Seen {
             && row.height == layer.height
             && row.dx == layer.dx
             && row.dy == layer.dy
-            && row.owner as u64 + 1 == k as u64
+            && u64::from(row.owner) + 1 == u64::from(k)
     }
 
     #[tactic(auto, unfolding(crate::specs::Usable::channel_follows))]

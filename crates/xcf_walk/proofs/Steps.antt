@@ -1,7 +1,7 @@
 -- A function that reads field by field is its walk's do block, step by step.
 -- Assumes nothing.
 use Prim.Native.Nat.{ℕ}
-use mathlib.Core.Path.{◌≡◌, refl, ◌∙◌, ap}
+use mathlib.Core.Path.{◌≡◌, refl, sym, ◌∙◌, ap}
 use mathlib.Core.List.{List}
 use mathlib.Core.Bool.{Bool, true, false}
 use native.Mathlib.Omega.{arith}
@@ -15,7 +15,7 @@ use Rattle.xcf_numbers.specs.declared.reason.Reason.{Reason}
 use Rattle.xcf_numbers.specs.Reason.{number_of}
 use Rattle.xcf_walk.specs.declared.cursor.Cursor.{Cursor}
 use Rattle.xcf_walk.specs.Walk.{got, Walk, done, ◌>>=◌, run, here, jump, must}
-use Rattle.xcf_walk.specs.Cursor.{WalksBy}
+use Rattle.xcf_walk.specs.Cursor.{WalksBy, outcome}
 use Rattle.xcf_walk.proofs.Walks.{run_bind, run_here, run_done, ran_jump}
 
 -- a walk in two parts: the first gives a value, and the second goes on with it
@@ -58,3 +58,8 @@ ends {u = u} {c = c} {a = a} y h = record { gives = run_done c.file.now c.at a �
 -- bytes that were handed out are all of their bytes
 pub whole : {b : List ℕ} {n : ℕ} → length b ≡ n → part b 0 n ≡ b
 whole {b} {n} h = take_all n b (omega arith)
+
+-- what a walk gives from a cursor is one outcome: one value with one place behind it, or one refusal
+pub walks_unique : {X A : Type 0} {view : X → A} {w : Walk A} {c d e : Cursor} {r s : Result X Refusal} → WalksBy view w c r d → WalksBy view w c s e
+    → (outcome view r d.at ≡ outcome view s e.at) × (d.file.now ≡ e.file.now)
+walks_unique x y = (sym x.gives ∙ y.gives, x.file ∙ sym y.file)

@@ -56,6 +56,7 @@ impl<'a> Cursor<'a> {
         let at = self.at + size * right.count as usize;
         self.jump(at);
         let p = self.pointer(width)?;
+        // By `&`, since the walk asks for both as one test.
         require((right.count == n) & (p == 0), Reason::BadTilePointer, at)
     }
 }

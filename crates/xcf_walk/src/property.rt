@@ -1,6 +1,5 @@
 // Property lists: one reader and one loop for the image's, a layer's, a mask's and a channel's.
 ghost use Rattle.std.specs.Prelude.{◌≡◌};
-ghost use Rattle.xcf_store.specs.Width.{bytes_of};
 ghost use Rattle.xcf_property.specs.List.{list_number};
 ghost use Rattle.xcf_walk.specs.Property.{payload, colour_map, content, property, property_turn, properties};
 ghost use Rattle.xcf_walk.specs.Cursor.{WalksBy, Walks};
@@ -14,7 +13,6 @@ use xcf_property::{
     Content, ListKind, Properties, allowed, content_of, is_colour_map, is_floating, lacks_map,
     length_ok, map_length_ok,
 };
-use xcf_store::pointer::Width;
 
 // A property: its type, the place of its type word, the place of its payload, what its length word says, and its content.
 #[derive(Clone, Copy)]
@@ -29,10 +27,10 @@ pub struct Property {
 impl<'a> Cursor<'a> {
     // A payload whose length its type allows. Here and below, at is the place of the length word, and n what it says.
     #[tactic(auto, using(crate::proofs::Walks::steps), unfolding(crate::specs::Property::payload))]
-    fn payload(&mut self, width: Width, kind: u32, at: usize, n: u32) -> Result<Content, Refusal>
-        ensures { Walks (payload (bytes_of width) kind at n) self.old result self.new }
+    fn payload(&mut self, size: usize, kind: u32, at: usize, n: u32) -> Result<Content, Refusal>
+        ensures { Walks (payload size kind at n) self.old result self.new }
     {
-        let right = length_ok(kind, n, width.bytes());
+        let right = length_ok(kind, n, size);
         require(right, Reason::BadLength, at)?;
         let bytes = self.bytes(n as usize)?;
         Ok(content_of(bytes, 0, bytes.len()))
@@ -58,32 +56,32 @@ impl<'a> Cursor<'a> {
     #[tactic(auto, unfolding(crate::specs::Property::content))]
     fn content(
         &mut self,
-        width: Width,
+        size: usize,
         list: ListKind,
         kind: u32,
         at: usize,
         n: u32,
     ) -> Result<Content, Refusal>
-        ensures { Walks (content (bytes_of width) (list_number list) kind at n) self.old result self.new }
+        ensures { Walks (content size (list_number list) kind at n) self.old result self.new }
     {
         if is_colour_map(list, kind) {
             self.colour_map(at, n)
         } else {
-            self.payload(width, kind, at, n)
+            self.payload(size, kind, at, n)
         }
     }
 
     // Type, length and payload; the list says whose list it is.
     #[tactic(auto, using(crate::proofs::Walks::steps), unfolding(crate::specs::Property::property))]
-    pub fn property(&mut self, width: Width, list: ListKind) -> Result<Property, Refusal>
-        ensures { Walks (property (bytes_of width) (list_number list)) self.old result self.new }
+    pub fn property(&mut self, size: usize, list: ListKind) -> Result<Property, Refusal>
+        ensures { Walks (property size (list_number list)) self.old result self.new }
     {
         let start = self.at;
         let kind = self.word()?;
         let at = self.at;
         let n = self.word()?;
         let place = self.at;
-        let content = self.content(width, list, kind, at, n)?;
+        let content = self.content(size, list, kind, at, n)?;
         Ok(Property {
             kind,
             start,
@@ -97,13 +95,13 @@ impl<'a> Cursor<'a> {
     #[tactic(auto, using(crate::proofs::Walks::steps), unfolding(crate::specs::Property::property_turn))]
     fn next_property(
         &mut self,
-        width: Width,
+        size: usize,
         list: ListKind,
         p: Properties,
     ) -> Result<Option<Property>, Refusal>
-        ensures { WalksBy (turn_of (list_number list) p) (property_turn (bytes_of width) (list_number list) p) self.old result self.new }
+        ensures { WalksBy (turn_of (list_number list) p) (property_turn size (list_number list) p) self.old result self.new }
     {
-        let x = self.property(width, list)?;
+        let x = self.property(size, list)?;
         require(!is_floating(list, x.kind), Reason::Floating, x.start)?;
         require(!lacks_map(x.kind, p), Reason::BadContent, x.start)?;
         require(
@@ -121,14 +119,14 @@ impl<'a> Cursor<'a> {
     // A whole list; unmapped is 1 for an indexed image, whose list must hold a colour map.
     pub fn properties(
         &mut self,
-        width: Width,
+        size: usize,
         list: ListKind,
         unmapped: u32,
     ) -> Result<Properties, Refusal>
-        ensures { Walks (properties (bytes_of width) (list_number list) unmapped) self.old result self.new }
+        ensures { Walks (properties size (list_number list) unmapped) self.old result self.new }
     {
         let mut p = Properties::defaults(list, unmapped);
-        while let Some(x) = self.next_property(width, list, p)? {
+        while let Some(x) = self.next_property(size, list, p)? {
             p = p.put(list, x.kind, x.content);
         }
         Ok(p)

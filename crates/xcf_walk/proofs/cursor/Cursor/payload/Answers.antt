@@ -8,5 +8,5 @@ use Rattle.xcf_walk.proofs.cursor.Cursor.payload.Goals as goal
 pub returns : goal.returns
 unfolding payload
 returns c =
-    then_held _ _ _ (sym (rw c.bytes.ensures at c.length_ok-right.ensures) ∙ c.in_ok-require.ensures.holds)
+    then_held _ _ _ (sym c.length_ok-right.ensures ∙ c.in_ok-require.ensures.holds)
     (then _ c.in_ok-bytes.ensures.walks (ends _ (sym (c.content_of.ensures ∙ ap content_of (whole refl)))))
