@@ -1,5 +1,5 @@
--- Bytes stored one after the other: what was stored in two goes or by a copy is what `sets` stores, by
--- induction on the bytes. `Put` says it with the place behind the bytes, `PutWithin` with a bound on how many they are.
+-- Bytes stored one after the other: what was stored in two goes is what `sets` stores, by induction on the bytes. `Put` says it with
+-- the place behind the bytes, `PutWithin` with a bound on how many they are.
 -- Assumes nothing.
 use mathlib.Core.Path.{◌≡◌, refl, sym, ap, ◌∙◌}
 use mathlib.Core.List.{List, [], ◌∷◌, ◌++◌, append_assoc, append-nil}
@@ -7,7 +7,7 @@ use Prim.Native.Nat.{ℕ, suc, ◌+◌, ◌*◌, ◌≤◌}
 use native.Mathlib.Nat.{add-zero, zero-add, le_refl}
 use native.Mathlib.Omega.{arith}
 use lib.ListN.{length, take, drop, set, length-append, length-take, length-drop, take-append-drop, drop_of_length-le}
-use lib.Seq.{sets, sets-eq, length-sets, take-length, take-take, drop-drop, drop-append-le}
+use lib.Seq.{sets, sets-eq, length-sets, take-take, drop-drop, drop-append-le}
 use Rattle.xcf_store.specs.Put.{Put, PutWithin}
 
 -- xs and then ys
@@ -15,10 +15,6 @@ pub sets_append : (l : List ℕ) (i : ℕ) (xs ys : List ℕ) → sets l i (xs +
 sets_append l i [] ys = rw add-zero
 sets_append l i (x ∷ xs) ys =
     sets_append (set l i x) (suc i) xs ys ∙ ap (λ (n : ℕ). sets (sets (set l i x) (suc i) xs) n ys) (omega arith)
-
--- a copy to the start is a run of stores
-pub copied : (l bs : List ℕ) → length bs ≤ length l → take (length bs) bs ++ drop (length bs) l ≡ sets l 0 bs
-copied l bs h = rw (take-length, sets-eq bs l 0 (omega arith), zero-add)
 
 -- what is left of a part behind its first n bytes, and what lies behind the part
 part_rest : (l : List ℕ) (a k n : ℕ) → a + k ≤ length l → n ≤ k → drop n (take k (drop a l)) ++ drop k (drop a l) ≡ drop (a + n) l
