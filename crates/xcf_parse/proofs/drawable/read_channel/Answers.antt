@@ -8,6 +8,3 @@ pub returns-clause-walks : goal.returns-clause-walks
 unfolding channel
 returns-clause-walks c =
     then _ c.in_ok-side_like.ensures (then _ c.in_ok-side_like-2.ensures (rw (fields_same _ _ _ c.from.ensures) at c.read_fields.ensures.walks))
-
-pub returns-clause-fields_low : goal.returns-clause-fields_low
-returns-clause-fields_low c = rw (c.side_like-2.ensures.file, c.side_like.ensures.file) at c.read_fields.ensures.fields_low

@@ -2,15 +2,12 @@
 use Rattle.std.proofs.Common.{arith}
 use Rattle.xcf_segment.specs.Segment.{encode_stream}
 use Rattle.xcf_segment.proofs.Bound.{bound}
-use Rattle.xcf_segment.proofs.PiecesLoop.{size_start, size_turn, size_whole, here}
+use Rattle.xcf_segment.proofs.PiecesLoop.{size_start, size_turn, size_whole}
 use Rattle.xcf_segment.proofs.SegmentsWithin.{segments_within}
 use Rattle.xcf_segment.proofs.measure.encoded_size.Goals as goal
 
 pub loop-segment-init : goal.loop-segment-init
 loop-segment-init c = size_start 0 _ (segments_within _ c.args.stream.now c.requires) cc
-
-pub segment_size-size-requires : goal.segment_size-size-requires
-segment_size-size-requires c = (here c.loop-segment.invariant _ _ c.in-Some.ensures.steps).short
 
 pub overflow_add-size : goal.overflow_add-size
 unfolding encode_stream

@@ -1,17 +1,7 @@
 -- `pointers` meets its contract: what is left of the list gives what the whole gives (`PointersLeft`).
-use Prim.Native.Nat.{◌<◌}
 use mathlib.Core.Path.{refl}
-use native.Mathlib.Omega.{arith}
-use Rattle.xcf_walk.proofs.PointersLoop.{pointers_start, pointers_go, pointers_end, pointers_stop}
+use Rattle.xcf_walk.proofs.PointersLoop.{pointers_go, pointers_end, pointers_stop}
 use Rattle.xcf_walk.proofs.cursor.Cursor.pointers.Goals as goal
-
-pub loop-p-init : goal.loop-p-init
-loop-p-init g c = pointers_start c.new-list.ensures
-
-pub loop-p-smaller : goal.loop-p-smaller
-loop-p-smaller g c =
-    let room : 0 < c.remaining_capacity.result = rw c.in-Some.is at c.in_ok-p.ensures.room in
-    omega (arith, c.push.ensures.len, c.remaining_capacity.ensures)
 
 pub loop-p-preserved : goal.loop-p-preserved
 loop-p-preserved g c = pointers_go c.loop-p.invariant _ c.remaining_capacity.ensures (rw c.in-Some.is at c.in_ok-p.ensures.room) (rw c.in-Some.is at c.in_ok-p.ensures.walks) c.push.ensures.items
