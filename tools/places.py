@@ -69,7 +69,7 @@ def enums():
     for path, text in files:
         for m in re.finditer(r"enum (\w+)[^{]*\{(.*?)\n\}", text, re.S):
             variants = re.findall(r"^    (\w+)(.)", re.sub(r"//.*", "", m.group(2)), re.M)
-            if len({end for _, end in variants} & {","}) and any(end != "," for _, end in variants):
+            if len({end == "," for _, end in variants}) == 2:
                 found.append(f"{path}: {m.group(1)}")
     return found
 
@@ -86,8 +86,8 @@ def by_hand():
 
 
 def answers():
-    """Files of answers and of invariants, by crate."""
-    return [f"{path}" for path, _ in texts("proofs", ".antt") if path.endswith(("/Answers.antt", "/Invariants.antt"))]
+    """Files of answers and of invariants."""
+    return [path for path, _ in texts("proofs", ".antt") if path.endswith(("/Answers.antt", "/Invariants.antt"))]
 
 
 def uses(name):
