@@ -9,9 +9,6 @@ loop-k-init c = left_first _ _ _ _ (seen_none _ _ c.default-seen.ensures)
 pub returns-then-not-usable : goal.returns-then-not-usable
 returns-then-not-usable c = left_bad c.loop-k.invariant c.loop-k-test.true c.usable.ensures c.if-not-usable.true
 
-pub see-seen-requires : goal.see-seen-requires
-see-seen-requires c = (c.loop-k-test.true, c.loop-k.invariant.seen)
-
 pub loop-k-preserved : goal.loop-k-preserved
 loop-k-preserved c = left_next c.loop-k.invariant c.loop-k-test.true c.usable.ensures c.if-not-usable.false c.see-seen.ensures
 

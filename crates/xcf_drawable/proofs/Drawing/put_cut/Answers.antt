@@ -5,8 +5,6 @@ use lib.ListN.{length-drop}
 use Rattle.xcf_drawable.proofs.LevelPut.{closing_room, cut_put}
 use Rattle.xcf_drawable.proofs.Drawing.put_cut.Goals as goal
 
-pub put_tiles-requires-clause-tiles : goal.put_tiles-requires-clause-tiles
-put_tiles-requires-clause-tiles c = rw (c.split_at_mut-level.ensures.back, length-drop) (omega (arith, c.requires.room))
 
 pub word-requires : goal.word-requires
 word-requires c =

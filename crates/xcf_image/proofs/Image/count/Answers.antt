@@ -1,13 +1,7 @@
 -- `count` meets its contract: `KindLeft` holds at the loop's head.
 use native.Mathlib.Omega.{arith}
-use Rattle.xcf_image.proofs.RowsLoop.{kind_first, kind_next, kind_over, byte_most}
+use Rattle.xcf_image.proofs.RowsLoop.{kind_next, kind_over}
 use Rattle.xcf_image.proofs.Image.count.Goals as goal
-
-pub loop-k-init : goal.loop-k-init
-loop-k-init c = kind_first _ _ _
-
-pub overflow_add-count : goal.overflow_add-count
-overflow_add-count c = omega (arith, byte_most, c.loop-k.invariant.most, c.args.self.now.few)
 
 pub loop-k-preserved : goal.loop-k-preserved
 loop-k-preserved c = kind_next c.loop-k.invariant c.loop-k-test.true c.row_at.ensures c.from-count.ensures

@@ -5,9 +5,6 @@ use native.Mathlib.Omega.{arith}
 use lib.ListN.{length}
 use mathlib.Core.Path.{◌∙◌}
 
-pub bounds-pixels-to : goal.bounds-pixels-to
-bounds-pixels-to c = omega (arith, c.loop-byte.invariant.place, one_less c.args.step (length c.args.bytes.now) c.loop-byte.byte-index c.loop-byte-test.true)
-
 pub loop-byte-preserved : goal.loop-byte-preserved
 loop-byte-preserved c =
     let l = c.loop-byte in

@@ -4,9 +4,6 @@ use Rattle.xcf_stream.proofs.scatter.fill.Goals as goal
 use native.Mathlib.Omega.{arith}
 use mathlib.Core.Path.{◌∙◌}
 
-pub bounds-pixels-to : goal.bounds-pixels-to
-bounds-pixels-to c = omega (arith, c.loop.invariant.place, one_less c.args.step c.args.count c.loop.counter c.loop-test.true)
-
 pub loop-preserved : goal.loop-preserved
 loop-preserved c =
     let l = c.loop in

@@ -1,15 +1,12 @@
 -- The invariant is `SizeLeft` of the streams' encodings; a turn is `size_turn` at the stream that came.
 use Rattle.std.proofs.Common.{arith}
-use Rattle.xcf_segment.proofs.PiecesLoop.{size_start, here, size_turn, size_whole}
+use Rattle.xcf_segment.proofs.PiecesLoop.{size_start, size_turn, size_whole}
 use Rattle.xcf_encode.proofs.Parts.{parts_short, parts_small}
 use Rattle.xcf_encode.proofs.streams.Streams.encoded_size.Goals as goal
 
 pub loop-stream-init : goal.loop-stream-init
 loop-stream-init c =
     let s = c.args.self in size_start 0 _ (parts_short s.count 0 s.size s.rest.now s.short) cc
-
-pub encoded_size-size-requires : goal.encoded_size-size-requires
-encoded_size-size-requires c = here c.loop-stream.invariant _ _ c.in-Some.ensures.steps
 
 pub overflow_add-size : goal.overflow_add-size
 overflow_add-size c =
