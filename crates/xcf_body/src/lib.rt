@@ -1,7 +1,7 @@
 // The used rows of a table: counted, measured and stored.
 #![tactic(auto)]
 
-ghost use Rattle.std.specs.Prelude.{◌≡◌, ◌+◌, ◌*◌, ◌≤◌, ◌<◌, length};
+ghost use Rattle.std.specs.Prelude.{◌≡◌, cond, ◌+◌, ◌*◌, ◌≤◌, ◌<◌, length};
 ghost use Rattle.std.proofs.lemmas.List.Edits.{sets};
 ghost use Rattle.xcf_numbers.specs.Limit.{file_limit, table_rows, image_limit};
 ghost use Rattle.xcf_store.specs.Output.{Stores};
@@ -58,6 +58,13 @@ pub fn pixels_size(table: &[u32], n: u32) -> usize
         size = pixels_end(table, k, size);
     }
     size
+}
+
+// What the pointer to its mask says in a drawable that ends at `end`, where its mask begins if it has one.
+fn mask_place(masked: bool, end: usize) -> usize
+    ensures { result ≡ cond masked end 0 }
+{
+    if masked { end } else { 0 }
 }
 
 // The rows of a table, as many of them as are used, with their names, and their pixels one row's behind the other's.
@@ -117,7 +124,8 @@ impl<'a> UsedRows<'a> {
         for k in 0..self.used {
             let end = pixels_end(self.table, k, at);
             let next = places[k as usize + 1];
-            self.drawing(k, &self.pixels[at..end]).put(output, next);
+            let drawing = self.drawing(k, &self.pixels[at..end]);
+            drawing.put(output, mask_place(drawing.structure.masked, next));
             at = end;
         }
     }

@@ -102,25 +102,17 @@ impl Drawing<'_> {
         output.at = self.put_cut(output.bytes, output.at);
     }
 
-    // What the pointer to its mask says where the drawable ends at `end`.
-    fn mask_place(&self, end: usize) -> usize
-        ensures { result ≡ cond self.now.structure.masked end 0 }
-    {
-        if self.structure.masked { end } else { 0 }
-    }
-
-    // The drawable with all that belongs to it. It ends at `end`, where its mask begins if it has one.
-    pub fn put(&self, output: &mut Output<'_>, end: usize)
+    // The drawable with all that belongs to it; mask is the place of its mask, or 0.
+    pub fn put(&self, output: &mut Output<'_>, mask: usize)
         requires space { Space output.old.bytes.now output.old.at (drawable_size (drawable_of self.now)) }
-        requires end_value { end ≡ output.old.at + drawable_size (drawable_of self.now) }
+        requires mask_value { mask ≡ cond self.now.structure.masked (output.old.at + drawable_size (drawable_of self.now)) 0 }
         ensures stores { Stores output.old (drawable_bytes (drawable_of self.now) output.old.at) output.new }
         ensures same { output.new.bytes.ghost_name ≡ output.old.bytes.ghost_name }
     {
         let row = self.structure.row;
-        let mask = self.mask_place(end) as u32;
         let hierarchy = output.at + self.structure.size();
         let level = hierarchy + HIERARCHY_SIZE;
-        self.structure.put(output, hierarchy as u32, mask);
+        self.structure.put(output, hierarchy as u32, mask as u32);
         output.words(&[row.width, row.height, row.depth, level as u32, 0]);
         self.put_level(output);
     }
