@@ -33,7 +33,7 @@ fn copy(bytes: &[u8], pixels: &mut [u8], at: usize, step: usize) -> usize
 }
 
 // `fill`, with a loop of its own for each depth of a pixel: the compiler makes a block fill of the first, and unrolls the others. (One
-// match on the step for runs and copies together takes up to a tenth more instructions an operation.)
+// match on the step for runs and copies together takes more instructions where operations are short.)
 fn put_run(value: u8, count: usize, pixels: &mut [u8], at: usize, step: usize) -> usize
     requires { StepRoom pixels.old at step count }
     ensures { (result ≡ at + step * count) × (pixels.new ≡ scatter pixels.old at step (replicate count value)) }
