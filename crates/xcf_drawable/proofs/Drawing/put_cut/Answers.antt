@@ -1,10 +1,7 @@
 -- `put_cut` meets its contract: the pointers and the closing word fill the output up to where it is cut (`cut_put`).
 use Rattle.std.proofs.Common.{rules}
-use native.Mathlib.Omega.{arith}
-use lib.ListN.{length-drop}
 use Rattle.xcf_drawable.proofs.LevelPut.{closing_room, cut_put}
 use Rattle.xcf_drawable.proofs.Drawing.put_cut.Goals as goal
-
 
 pub word-requires : goal.word-requires
 word-requires c =
