@@ -134,7 +134,7 @@ fn definitions() -> Vec<Definition> {
         if file.split('/').nth(1) != Some("specs") {
             continue;
         }
-        let is_opened = ["Refusal", "Mark"].map(|page| source.contains(&format!(".{page}.{{")));
+        let is_opened = ["Refusal", "Mark"].map(|page| source.contains(&format!(".specs.{page}.{{")));
         assert_eq!(
             is_opened, [false; 2],
             "{file} has numbers without their page's name"

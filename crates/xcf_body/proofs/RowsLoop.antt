@@ -37,9 +37,9 @@ module _ {table : List ℕ} {k : ℕ} {r : Row} (g : UsedLeft table k) (h : k < 
   pub used_end : r.kind ≡ Kind.unused → k ≡ used_rows table
   used_end unused = omega (arith, rw (eq-eqb r.kind Kind.unused unused) at used_step)
 
-pub used_all : {table : List ℕ} {k : ℕ} → UsedLeft table k → table_rows ≤ k → k ≡ used_rows table
+pub used_all : {table : List ℕ} {k : ℕ} → UsedLeft table k → table_rows ≤ k → table_rows ≡ used_rows table
 unfolding used_from
-used_all {k} g h = omega (arith, rw (rest_empty table_rows k h) at g.rest)
+used_all {k} g h = omega (arith, g.few, rw (rest_empty table_rows k h) at g.rest)
 
 -- the pixels of the rows before row k end at a place
 pub record PixelsLeft (table : List ℕ) (n k at : ℕ) : Type 0 where

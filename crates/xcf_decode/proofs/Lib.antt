@@ -1,4 +1,5 @@
 pub mod Marked
 pub mod TilesLoop
 pub mod Usable
+pub mod Reasons
 pub mod Answered

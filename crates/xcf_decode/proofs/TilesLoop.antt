@@ -83,14 +83,14 @@ module _ {size : ℕ} {f : List ℕ} {r : Row} {compression : ℕ} {scratch : Li
       let all : t ≡ r.count = omega (arith, over, g.inside) in
       g.count ∙ ap (λ n. nonzero (tabulate n 0 (mark_of size f r compression))) all
 
-module _ {size : ℕ} {f : List ℕ} {r : Row} {compression : ℕ} (ready : Ready size f r compression) where
+module _ {size : ℕ} {f : List ℕ} {r : Row} (ready : Ready size f r) where
   few : r.count ≤ 65536
   few = rw ready.range.count (few_tiles r.width r.height ready.range.wide.1 ready.range.high.1)
 
-  pub counting_few : {scratch : List ℕ} {t marked : ℕ} → Counting size f r compression scratch t marked → (marked ≤ t) × (t ≤ 65536)
-  counting_few {t = t} g = (rw g.count (nonzero_below t (mark_of size f r compression)), omega (arith, g.inside, few))
+  pub counting_few : {compression : ℕ} {scratch : List ℕ} {t marked : ℕ} → Counting size f r compression scratch t marked → (marked ≤ t) × (t ≤ 65536)
+  counting_few {compression} {t = t} g = (rw g.count (nonzero_below t (mark_of size f r compression)), omega (arith, g.inside, few))
 
-  module _ {pixels marks scratch : List ℕ} {t marked : ℕ} (g : TilesGoing size f r compression pixels marks scratch t marked) where
+  module _ {compression : ℕ} {pixels marks scratch : List ℕ} {t marked : ℕ} (g : TilesGoing size f r compression pixels marks scratch t marked) where
     pub tile_placeable : t < r.count → (n : ℕ) → n ≡ tile_size → Placeable r (frame_of r t) n (length pixels)
     tile_placeable less n room = record {
       framed =

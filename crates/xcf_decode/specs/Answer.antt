@@ -1,6 +1,6 @@
 -- What the decoder of a drawable answers, and what it leaves in the buffers lent for the pixels and the marks. A pointer has `size`
 -- bytes.
-use Rattle.std.specs.Prelude.{ℕ, ◌+◌, ◌≡◌, List, [], ◌∷◌, Bool, true, cond, length, eqb}
+use Rattle.std.specs.Prelude.{ℕ, ◌+◌, ◌≡◌, List, [], ◌∷◌, Bool, true, cond, length, eqb, Option, Some, None}
 use Rattle.xcf_numbers.specs.Refusal
 use Rattle.xcf_walk.specs.Walk.{Outcome, got, refused, run}
 use Rattle.xcf_table.specs.declared.Row.{Row}
@@ -8,7 +8,6 @@ use Rattle.xcf_table.specs.Table.{row_at}
 use Rattle.xcf_walk.specs.Pointers.{tiles}
 use Rattle.xcf_decode.specs.declared.DecodeAnswer.{DecodeAnswer}
 use Rattle.xcf_decode.specs.declared.check.Lent.{Lent}
-use Rattle.xcf_decode.specs.declared.check.Lent.TheVariants.{Nothing, Buffers}
 use Rattle.xcf_window.specs.Window.{tile}
 use Rattle.xcf_grid.specs.Pixels.{tabulate, pixels_of}
 use Rattle.xcf_window.specs.Usable.{fits, row_refusal}
@@ -22,9 +21,9 @@ pointers_refusal (got u q) = refusal Refusal.accepted 0
 pointers_refusal (refused n p) = refusal n p
 
 -- the lent pixels and marks fit a row; where none are lent, nothing has to
-abbrev pub lent_fits : Row → Lent → Bool
-lent_fits r Nothing = true
-lent_fits r (Buffers pixels marks) = fits r pixels marks
+abbrev pub lent_fits : Row → Option Lent → Bool
+lent_fits r None = true
+lent_fits r (Some lent) = fits r lent.pixels lent.marks
 
 -- then 11 where the lent pixels or marks do not fit, then 13
 unfoldable pub drawable_refusal : ℕ → List ℕ → ℕ → Row → ℕ → Bool → DecodeAnswer

@@ -1,34 +1,32 @@
 // The marked tiles of a drawable, counted with the pixels of one tile at a time.
 ghost use Rattle.std.specs.Prelude.{◌≡◌, length};
 ghost use Rattle.xcf_numbers.specs.Limit.{tile_size};
-ghost use Rattle.xcf_decode.specs.Answer.{nonzero, marks_of};
-ghost use Rattle.xcf_window.specs.Parts.{Ready};
+ghost use Rattle.xcf_window.specs.Parts.{IsReady};
+ghost use Rattle.xcf_decode.specs.Parts.{marked_of};
 
-use xcf_grid::frame::frame_of;
+use xcf_grid::frame::Frame;
 use xcf_numbers::limit::TILE_SIZE;
-use xcf_table::Row;
-use xcf_window::tile::decode_one;
+use xcf_window::drawable::Drawable;
 
-fn count_tiles(file: &[u8], row: Row, compression: u32, size: usize, scratch: &mut [u8]) -> u64
-    requires { Ready size file.now row compression × (length scratch.old ≡ tile_size) }
-    ensures { result ≡ nonzero (marks_of size file.now row compression) }
+fn count_tiles(drawable: &Drawable<'_>, scratch: &mut [u8]) -> u64
+    requires { IsReady drawable.now × (length scratch.old ≡ tile_size) }
+    ensures { result ≡ marked_of drawable.now }
 {
-    let mut t: u32 = 0;
+    let row = drawable.row;
     let mut marked: u64 = 0;
-    while t < row.count {
-        let mark = decode_one(file, row, compression, size, t, frame_of(row, t), scratch);
+    for t in 0..row.count {
+        let mark = drawable.decode(t, Frame::of(row, t), scratch);
         if mark != 0 {
             marked += 1;
         }
-        t += 1;
     }
     marked
 }
 
-pub(crate) fn count_row(file: &[u8], row: Row, compression: u32, size: usize) -> u64
-    requires { Ready size file.now row compression }
-    ensures { result ≡ nonzero (marks_of size file.now row compression) }
+pub(crate) fn count_row(drawable: &Drawable<'_>) -> u64
+    requires { IsReady drawable.now }
+    ensures { result ≡ marked_of drawable.now }
 {
     let mut scratch = [0u8; TILE_SIZE];
-    count_tiles(file, row, compression, size, &mut scratch)
+    count_tiles(drawable, &mut scratch)
 }

@@ -6,11 +6,13 @@ mod count;
 mod drawable;
 
 ghost use Rattle.std.specs.Prelude.{◌≡◌};
-ghost use Rattle.xcf_decode.specs.Answer.{refusal, counting, DrawableDecoded};
+ghost use Rattle.xcf_decode.specs.Answer.{counting, DrawableDecoded};
+ghost use Rattle.xcf_decode.specs.Parts.{AnswerOf};
 
-use crate::check::{Lent, drawable_refusal};
+use crate::check::{Lent, drawable_of};
 use crate::count::count_row;
 use crate::drawable::decode_row;
+use xcf_numbers::reason::Refusal;
 use xcf_table::row_at;
 
 #[repr(C)]
@@ -21,13 +23,15 @@ pub struct DecodeAnswer {
     pub marked: u64,
 }
 
-pub(crate) fn refusal(number: u64, place: u64) -> DecodeAnswer
-    ensures { result ≡ refusal number place }
-{
-    DecodeAnswer {
-        number,
-        place,
-        marked: 0,
+impl From<Refusal> for DecodeAnswer {
+    ghost from_gives = { AnswerOf };
+
+    fn from(refusal: Refusal) -> DecodeAnswer {
+        DecodeAnswer {
+            number: u64::from(refusal.reason),
+            place: refusal.place as u64,
+            marked: 0,
+        }
     }
 }
 
@@ -44,19 +48,17 @@ pub fn decode(
     ensures { DrawableDecoded size file.now table.now k compression pixels.old marks.old result pixels.new marks.new }
 {
     let row = row_at(table, k);
-    let lent = Lent::Buffers {
+    let lent = Lent {
         pixels: pixels.len(),
         marks: marks.len(),
     };
-    let answer = drawable_refusal(file, table.len(), row, compression, size, lent);
-    if answer.number != 0 {
-        return answer;
-    }
-    let marked = decode_row(file, row, compression, size, pixels, marks);
-    DecodeAnswer {
-        number: 0,
-        place: 0,
-        marked,
+    match drawable_of(file, table.len(), row, compression, size, Some(lent)) {
+        Err(refusal) => DecodeAnswer::from(refusal),
+        Ok(drawable) => DecodeAnswer {
+            number: 0,
+            place: 0,
+            marked: decode_row(&drawable, pixels, marks),
+        },
     }
 }
 
@@ -71,13 +73,12 @@ pub fn count_marked(
     ensures { result ≡ counting size file.now table.now k compression }
 {
     let row = row_at(table, k);
-    let refused = drawable_refusal(file, table.len(), row, compression, size, Lent::Nothing);
-    if refused.number != 0 {
-        return refused;
-    }
-    DecodeAnswer {
-        number: 0,
-        place: 0,
-        marked: count_row(file, row, compression, size),
+    match drawable_of(file, table.len(), row, compression, size, None) {
+        Err(refusal) => DecodeAnswer::from(refusal),
+        Ok(drawable) => DecodeAnswer {
+            number: 0,
+            place: 0,
+            marked: count_row(&drawable),
+        },
     }
 }

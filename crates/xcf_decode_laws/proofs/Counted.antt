@@ -8,7 +8,7 @@ use mathlib.Core.List.{List}
 use borrow.Author.Tests.{eqb-false}
 use lib.Dec.{eqb}
 use lib.ListN.{length}
-use Rattle.xcf_laws.proofs.Cases.{by_cases}
+use Rattle.std.proofs.lemmas.Bool.{cond_both}
 use Rattle.xcf_table.specs.Table.{row_at}
 use Rattle.xcf_window.specs.Usable.{fits}
 use Rattle.xcf_decode.specs.Answer.{drawable_refusal, nonzero, Decoding, row_decoding, decoding, counting}
@@ -29,6 +29,6 @@ unfolding decoding row_decoding
 marks_counted size file table k compression pixels marks =
     let r = row_at table k in
     let answer = drawable_refusal size file (length table) r compression (fits r (length pixels) (length marks)) in
-    by_cases (λ (d : Decoding). d.answer.number ≡ 0 → d.answer.marked ≡ nonzero d.marks) (eqb answer.number 0)
-    (row_decoding size file r compression) (record { answer = answer; pixels = pixels; marks = marks }) (λ _ _. refl)
+    cond_both (eqb answer.number 0) (row_decoding size file r compression)
+    (record { answer = answer; pixels = pixels; marks = marks }) (λ (d : Decoding). d.answer.number ≡ 0 → d.answer.marked ≡ nonzero d.marks) (λ _ _. refl)
     (λ no yes. absurd (eqb-false answer.number 0 no yes))

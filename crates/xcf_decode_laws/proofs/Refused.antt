@@ -11,6 +11,7 @@ use native.Mathlib.Omega.{arith}
 use borrow.Author.Tests.{le-leb, leb-true, eq-eqb, ne_eqb}
 use lib.Dec.{leb, eqb}
 use lib.ListN.{length}
+use Rattle.std.proofs.lemmas.Bool.{cond_both}
 use Rattle.xcf_numbers.specs.Limit.{file_limit, table_size}
 use Rattle.xcf_numbers.specs.Refusal
 use Rattle.xcf_numbers.specs.Listed.{listed}
@@ -21,7 +22,6 @@ use Rattle.xcf_walk.proofs.Walks.{got_not_refused}
 use Rattle.xcf_table.specs.declared.Row.{Row}
 use Rattle.xcf_table.specs.Table.{row_at}
 use Rattle.xcf_grid.specs.Grid.{tile_count}
-use Rattle.xcf_laws.proofs.Cases.{by_cases}
 use Rattle.xcf_walk.specs.Pointers.{tiles}
 use Rattle.xcf_store.specs.Pointer.{narrow, wide, pointer_size_ok}
 use Rattle.xcf_decode.specs.declared.DecodeAnswer.{DecodeAnswer}
@@ -94,8 +94,8 @@ unfolding decoding row_decoding listed
 decoder_listed size file table k compression pixels marks =
     let r = row_at table k in
     let answer = drawable_refusal size file (length table) r compression (fits r (length pixels) (length marks)) in
-    by_cases (λ (d : Decoding). Listed d.answer) (eqb answer.number 0) (row_decoding size file r compression)
-    (record { answer = answer; pixels = pixels; marks = marks }) (λ _. refl)
+    cond_both (eqb answer.number 0) (row_decoding size file r compression) (record { answer = answer; pixels = pixels; marks = marks })
+    (λ (d : Decoding). Listed d.answer) (λ _. refl)
     (λ _. drawable_listed size file (length table) r compression (fits r (length pixels) (length marks)))
 
 pub counter_listed : (size : ℕ) (file table : List ℕ) (k compression : ℕ) → listed decoder_numbers (counting size file table k compression).number ≡ true
@@ -103,7 +103,7 @@ unfolding counting listed
 counter_listed size file table k compression =
     let r = row_at table k in
     let answer = drawable_refusal size file (length table) r compression true in
-    by_cases Listed (eqb answer.number 0) (counted (marks_of size file r compression)) answer (λ _. refl)
+    cond_both (eqb answer.number 0) (counted (marks_of size file r compression)) answer Listed (λ _. refl)
     (λ _. drawable_listed size file (length table) r compression true)
 
 -- a size of pointers that is neither 4 nor 8

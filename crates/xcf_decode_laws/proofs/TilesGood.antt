@@ -7,7 +7,7 @@ use mathlib.Core.List.{List}
 use borrow.Author.Tests.{eqb-true, eqb-false}
 use lib.Dec.{eqb}
 use lib.ListN.{length, get_or}
-use Rattle.xcf_laws.proofs.Cases.{by_cases}
+use Rattle.std.proofs.lemmas.Bool.{cond_both}
 use Rattle.xcf_table.specs.declared.Row.{Row}
 use Rattle.xcf_table.specs.Table.{row_at}
 use Rattle.xcf_grid.specs.Grid.{tile_width, tile_height, tile_count}
@@ -40,7 +40,7 @@ unfolding decoding
 drawable_good_when_valid size file table k compression pixels marks =
     let r = row_at table k in
     let answer = drawable_refusal size file (length table) r compression (fits r (length pixels) (length marks)) in
-    by_cases (λ (d : Decoding). d.answer.number ≡ 0 → (t : ℕ) → t < r.count → TileGood size file r compression t d) (eqb answer.number 0) _ _
+    cond_both (eqb answer.number 0) _ _ (λ (d : Decoding). d.answer.number ≡ 0 → (t : ℕ) → t < r.count → TileGood size file r compression t d)
     (λ e _.
     let range = (drawable_ready size file (length table) r compression _ (eqb-true _ _ e)).0.range in
     row_good_when_valid size file r compression range.wide.0 range.deep.0 range.count)

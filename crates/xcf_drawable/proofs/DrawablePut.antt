@@ -3,7 +3,7 @@
 -- parts' (`drawable_size_lem`), and the pointer to its mask is small (`mask_low`).
 -- Assumes nothing.
 use Prim.Native.Nat.{ℕ, ◌+◌, ◌≤◌}
-use mathlib.Core.Path.{◌≡◌, refl, ◌∙◌}
+use mathlib.Core.Path.{◌≡◌, refl}
 use mathlib.Core.List.{List, [], ◌∷◌, ◌++◌, flatten}
 use mathlib.Core.Bool.{Bool, true, false, cond}
 use native.Mathlib.Omega.{arith}
@@ -40,22 +40,28 @@ module _ (r : Row) (has_mask : Bool) (name pixels : List ℕ) where
     pub structure_room : (hierarchy mask : ℕ) → to + length (structure_bytes r has_mask name hierarchy mask) ≤ length old
     structure_room hierarchy mask = omega (arith, structure_length r has_mask name hierarchy mask, drawable_size_lem, s.room)
 
-    module _ {size : ℕ} (mask : ℕ) {behind : ℕ} {mid : List ℕ} (e : size ≡ length (structure_bytes r has_mask name 0 0)) (p : Put old to (structure_bytes r has_mask name (to + size) mask) behind mid) where
-      pub hierarchy_room : to + size + hierarchy_size ≤ length mid
-      hierarchy_room = omega (arith, e, put_length p, drawable_size_lem, s.room)
+    module _ {size : ℕ} (mask : ℕ) {hierarchy : ℕ} {mid : List ℕ} (e : size ≡ length (structure_bytes r has_mask name 0 0)) (p : Put old to (structure_bytes r has_mask name (to + size) mask) hierarchy mid) where
+      hierarchy_place : hierarchy ≡ to + size
+      hierarchy_place = omega (arith, p.behind, structure_length r has_mask name (to + size) mask, e)
 
-      module _ {level : ℕ} {out : List ℕ} (q : Put mid (to + size) (words (r.width ∷ r.height ∷ r.depth ∷ (to + size + hierarchy_size) ∷ 0 ∷ [])) level out) where
-        pub level_space : Space out (to + size + hierarchy_size) (level_size r.count + length (flatten (row_tiles r pixels)))
+      pub hierarchy_room : hierarchy + hierarchy_size ≤ length mid
+      hierarchy_room = omega (arith, hierarchy_place, e, put_length p, drawable_size_lem, s.room)
+
+      module _ {level : ℕ} {out : List ℕ} (q : Put mid hierarchy (words (r.width ∷ r.height ∷ r.depth ∷ (to + size + hierarchy_size) ∷ 0 ∷ [])) level out) where
+        level_place : level ≡ to + size + hierarchy_size
+        level_place = omega (arith, q.behind, hierarchy_place, words_length (r.width ∷ r.height ∷ r.depth ∷ (to + size + hierarchy_size) ∷ 0 ∷ []))
+
+        pub level_space : Space out level (level_size r.count + length (flatten (row_tiles r pixels)))
         level_space = record {
-          room = omega (arith, e, put_length q, put_length p, drawable_size_lem, s.room);
-          low = omega (arith, e, drawable_size_lem, s.low);
+          room = omega (arith, level_place, e, put_length q, put_length p, drawable_size_lem, s.room);
+          low = omega (arith, level_place, e, drawable_size_lem, s.low);
         }
 
         pub drawable_put : {end : ℕ} {new : List ℕ} → mask ≡ cond has_mask (to + drawable_size (drawn r has_mask name pixels)) 0
-            → Put out (to + size + hierarchy_size) (level_at r pixels (to + size + hierarchy_size + level_size r.count)) end new
+            → Put out level (level_at r pixels (level + level_size r.count)) end new
             → Put old to (drawable_bytes (drawn r has_mask name pixels) to) end new
         unfolding drawable_bytes hierarchy_bytes structure_size
-        drawable_put m l =
-            let first : behind ≡ to + size = omega (arith, p.behind, structure_length r has_mask name (to + size) mask, e) in
-            let second : level ≡ to + size + hierarchy_size = q.behind ∙ rw words_length in
-            rw (← e, ← m) (put_append (rw first at p) (put_append (rw second at q) l))
+        drawable_put {end} {new} m l =
+            let tiles = level + level_size r.count in
+            let third : Put out level (level_at r pixels (to + size + hierarchy_size + level_size r.count)) end new = rw (← level_place) l in
+            rw (← e, ← m) (put_append p (put_append q third))

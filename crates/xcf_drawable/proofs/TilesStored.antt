@@ -1,22 +1,21 @@
--- The loop that stores a row's tiles and the pointers to them: `Storing` holds at its head, the next pointer and the next encoding
--- have room (`next_room`, `next_tile`) and keep it (`storing_tile`), and with no tile left it names the place behind the tiles
--- (`storing_behind`) and the output (`storing_over`). What is left to store from here on gives all that was to be stored.
+-- The loop that stores a row's tiles, and the pointers to them in another output: `Storing` holds at its head, the next pointer and
+-- the next encoding have room (`next_link`, `next_tile`) and keep it (`storing_next`), and with no tile left all are stored
+-- (`links_over`, `tiles_over`).
 -- Assumes nothing.
 use Prim.Native.Nat.{ℕ, ◌+◌, ◌-◌, ◌*◌, ◌≤◌, ◌<◌}
-use mathlib.Core.Path.{◌≡◌, refl, ap, ◌∙◌}
+use mathlib.Core.Path.{◌≡◌, refl, ap}
 use mathlib.Core.List.{List, [], ◌++◌, flat_map, flatten}
 use native.Mathlib.Omega.{arith}
-use lib.ListN.{length, take, drop, length-append}
-use lib.Seq.{sets}
+use lib.ListN.{length, length-append}
 use Rattle.xcf_numbers.specs.Limit.{file_limit}
 use Rattle.xcf_table.specs.declared.Row.{Row}
-use Rattle.xcf_store.specs.Put.{Put}
-use Rattle.xcf_store.proofs.Stores.{put_part, put_length}
+use Rattle.xcf_store.specs.declared.output.Output.{Output}
+use Rattle.xcf_store.specs.Output.{Stores}
+use Rattle.xcf_store.proofs.Stores.{put_nothing}
 use Rattle.xcf_store.specs.Word.{word_bytes, words}
 use Rattle.xcf_drawable.specs.Drawable.{encoding_of, encodings, row_tiles, starts}
-use Rattle.xcf_drawable.specs.Parts.{Space}
 use Rattle.xcf_store.proofs.Words.{word_length, words_length}
-use Rattle.xcf_store.proofs.SetsApart.{stores_next}
+use Rattle.xcf_structure.proofs.PartsStored.{PartsLeft, parts_first, parts_next}
 use Rattle.xcf_drawable.proofs.DrawableLength.{encodings_count, starts_length}
 use Rattle.xcf_drawable.proofs.EncodingBound.{encodings_next, flatten_next, encodings_none, flatten_none}
 
@@ -41,65 +40,52 @@ module _ (r : Row) (pixels : List ℕ) where
   unfolding starts flat_map
   pointers_none t p over = rw (encodings_none r pixels r.count t over)
 
-pub record Storing (r : Row) (pixels old : List ℕ) (link first : ℕ) (output : List ℕ) (t at to : ℕ) : Type 0 where
+-- before tile t: what is left of the encodings stands behind those stored, and what is left of the pointers behind theirs; the
+-- encodings begin in the file at `first` behind the start of their output
+pub record Storing (r : Row) (pixels : List ℕ) (first : ℕ) (l₀ t₀ : Output) (t : ℕ) (links tiles : Output) : Type 0 where
   pub inside : t ≤ r.count
-  pub same : length output ≡ length old
-  pub pointers : at + 4 * (r.count - t) ≤ first
-  pub behind : first ≤ to
-  pub place : to + length (tiles_from r pixels t) ≡ first + length (flatten (row_tiles r pixels))
-  pub put : sets (sets output at (pointers_from r pixels t to)) to (tiles_from r pixels t)
-      ≡ sets (sets old link (words (starts (row_tiles r pixels) first))) first (flatten (row_tiles r pixels))
+  pub pointers : PartsLeft l₀.bytes.now l₀.at (words (starts (row_tiles r pixels) (first + t₀.at))) (pointers_from r pixels t (first + tiles.at)) links.at links.bytes.now
+  pub encodings : PartsLeft t₀.bytes.now t₀.at (flatten (row_tiles r pixels)) (tiles_from r pixels t) tiles.at tiles.bytes.now
+  pub place : tiles.at + length (tiles_from r pixels t) ≡ t₀.at + length (flatten (row_tiles r pixels))
 
-pub storing_start : {r : Row} {pixels old : List ℕ} {link first : ℕ} → link + 4 * r.count ≤ first
-    → Storing r pixels old link first old 0 link first
-storing_start {r} h =
+pub storing_start : (r : Row) (pixels : List ℕ) (first : ℕ) (links tiles : Output)
+    → links.at + 4 * r.count ≤ length links.bytes.now → tiles.at + length (flatten (row_tiles r pixels)) ≤ length tiles.bytes.now
+    → Storing r pixels first links tiles 0 links tiles
+storing_start r pixels first links tiles l h =
     let e : r.count - 0 ≡ r.count = omega arith in
-    record { inside = omega arith; same = refl; pointers = omega (arith, h); behind = omega arith; place = rw e; put = rw e }
+    let long = pointers_length r pixels r.count 0 (first + tiles.at) in
+    record { inside = omega arith; pointers = rw e (parts_first refl (omega (arith, long, l))); encodings = rw e (parts_first refl h); place = rw e refl }
 
-module _ {r : Row} {pixels old : List ℕ} {link first : ℕ} {output : List ℕ} {t at to : ℕ} (g : Storing r pixels old link first output t at to) where
+module _ {r : Row} {pixels : List ℕ} {first : ℕ} {l₀ t₀ : Output} {t : ℕ} {links tiles : Output} (g : Storing r pixels first l₀ t₀ t links tiles) where
   module _ (below : t < r.count) where
-    tiles_length : length (tiles_from r pixels t) ≡ length (encoding_of r t pixels) + length (tiles_from r pixels (t + 1))
-    tiles_length = ap length (flatten_next r pixels r.count t below) ∙ length-append (encoding_of r t pixels) _
+    tiles_next : flatten (encodings (r.count - t) t r pixels) ≡ encoding_of r t pixels ++ tiles_from r pixels (t + 1)
+    tiles_next = flatten_next r pixels r.count t below
 
-    pub next_room : Space old first (length (flatten (row_tiles r pixels)))
-        → (at + 4 ≤ to) × ((to + length (encoding_of r t pixels) ≤ length output) × (to + length (encoding_of r t pixels) ≤ file_limit))
-    next_room s = (
-      omega (arith, g.pointers, g.behind, below),
-      (omega (arith, tiles_length, g.place, g.same, s.room), omega (arith, tiles_length, g.place, s.low)),
-    )
+    -- the next pointer is a place in the file, and has room; so has the next encoding
+    pub next_low : first + (t₀.at + length (flatten (row_tiles r pixels))) ≤ file_limit → first + tiles.at ≤ file_limit
+    next_low low = omega (arith, g.place, low)
 
-    storing_next : {at' : ℕ} {mid : List ℕ} {to' : ℕ} {new : List ℕ}
-        → Put output at (word_bytes to) at' mid → Put mid to (encoding_of r t pixels) to' new
-        → Storing r pixels old link first new (t + 1) at' to'
-    storing_next p q =
-        let next = p.behind ∙ ap (λ n. at + n) (word_length to) in
-        let long = pointers_length r pixels (r.count - (t + 1)) (t + 1) (to + length (encoding_of r t pixels)) in
+    pub next_link : links.at + 4 ≤ length links.bytes.now
+    next_link =
+        omega (arith, word_length (first + tiles.at), rw (pointers_next r pixels t (first + tiles.at) below, length-append) at g.pointers.fits.room)
+
+    pub next_tile : tiles.at + length (encoding_of r t pixels) ≤ length tiles.bytes.now
+    next_tile = omega (arith, rw (tiles_next, length-append) at g.encodings.fits.room)
+
+    pub storing_next : {links' tiles' : Output} → Stores links (word_bytes (first + tiles.at)) links' → Stores tiles (encoding_of r t pixels) tiles'
+        → Storing r pixels first l₀ t₀ (t + 1) links' tiles'
+    storing_next {links'} {tiles'} p q =
+        let on : first + tiles.at + length (encoding_of r t pixels) ≡ first + tiles'.at = omega (arith, q.behind) in
         record {
           inside = omega (arith, below);
-          same = put_length q ∙ put_length p ∙ g.same;
-          pointers = omega (arith, next, g.pointers, below);
-          behind = omega (arith, q.behind, g.behind);
-          place = omega (arith, q.behind, tiles_length, g.place);
-          put =
-              rw (q.output, p.output, p.behind, q.behind)
-              (stores_next output at (word_bytes to) _ to (encoding_of r t pixels) _
-              (omega (arith, word_length to, long, g.pointers, g.behind, below))
-              ∙ (rw (pointers_next r pixels t to below, flatten_next r pixels r.count t below) at g.put));
+          pointers = rw on at (parts_next p (rw (pointers_next r pixels t (first + tiles.at) below) at g.pointers));
+          encodings = parts_next q (rw tiles_next at g.encodings);
+          place = omega (arith, q.behind, g.place, ap length tiles_next, length-append (encoding_of r t pixels) (tiles_from r pixels (t + 1)));
         }
 
-    module _ (s : Space old first (length (flatten (row_tiles r pixels)))) {at' : ℕ} {mid : List ℕ} (p : Put output at (word_bytes to) at' mid) where
-      pub next_tile : to + length (encoding_of r t pixels) ≤ length mid
-      next_tile = omega (arith, next_room s, put_length p)
+  module _ (over : r.count ≤ t) where
+    pub links_over : Stores l₀ (words (starts (row_tiles r pixels) (first + t₀.at))) links
+    links_over = (rw (pointers_none r pixels t (first + tiles.at) over) at g.pointers).whole _ _ (put_nothing _ _)
 
-      -- the encoding is stored at the start of the output's tail
-      pub storing_tile : {n : ℕ} {part : List ℕ} → Put (take (length mid - to) (drop to mid)) 0 (encoding_of r t pixels) n part
-          → Storing r pixels old link first (take to mid ++ (part ++ drop (length mid - to) (drop to mid))) (t + 1) at' (to + n)
-      storing_tile q = storing_next p (put_part {k = length mid - to} q (omega (arith, next_tile)) (omega (arith, next_tile)))
-
-  pub storing_behind : r.count ≤ t → to ≡ first + length (flatten (row_tiles r pixels))
-  storing_behind over = omega (arith, g.place, ap length (flatten_none r pixels r.count t over))
-
-  pub storing_over : r.count ≤ t
-      → output
-      ≡ sets (sets old link (words (starts (row_tiles r pixels) first))) first (flatten (row_tiles r pixels))
-  storing_over over = rw (pointers_none r pixels t to over, flatten_none r pixels r.count t over) at g.put
+    pub tiles_over : Stores t₀ (flatten (row_tiles r pixels)) tiles
+    tiles_over = (rw (flatten_none r pixels r.count t over) at g.encodings).whole _ _ (put_nothing _ _)

@@ -1,2 +1,3 @@
 pub mod Drawable
 pub mod Parts
+pub mod Drawing

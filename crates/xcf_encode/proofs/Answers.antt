@@ -1,4 +1,4 @@
--- What a call answers and leaves in the output, for each refusal and for none: the definitions, by the tests in their order.
+-- What a call gives and leaves in the output, for each refusal and for none: the definitions, by the tests in their order.
 -- Assumes nothing.
 use mathlib.Core.Path.{◌≡◌, ◌∙◌}
 use mathlib.Core.List.{List}
@@ -9,76 +9,53 @@ use native.Mathlib.Omega.{arith}
 use borrow.Author.Tests.{lt-ltb, le-ltb, eq-eqb, ne_eqb}
 use lib.ListN.{length}
 use lib.Seq.{sets-eq}
+use Rattle.std.specs.Prelude.{Ok, Err}
 use Rattle.xcf_numbers.specs.Limit.{stream_limit}
-use Rattle.xcf_numbers.specs.Refusal
-use Rattle.xcf_encode.specs.declared.EncodeAnswer.{EncodeAnswer}
+use Rattle.xcf_numbers.specs.declared.reason.Reason.{Reason}
+use Rattle.xcf_numbers.specs.declared.reason.Reason.TheVariants as reason
+use Rattle.xcf_numbers.specs.Reason.{number_of}
 use Rattle.xcf_segment.specs.Segment.{encode_stream}
 use Rattle.xcf_encode.specs.Tile.{encode_tile}
-use Rattle.xcf_encode.specs.Answer.{room_refusal, stream_refusal, tile_refusal, encode_answer, encode_output, StreamEncoded, TileEncoded}
+use Rattle.xcf_encode.specs.Answer.{room_refusal, stream_refusal, tile_refusal, encode_answer, encode_output}
 use Rattle.xcf_store.specs.Put.{Put}
-use Rattle.xcf_encode.specs.Parts.{EncodedInto}
+use Rattle.xcf_encode.specs.Parts.{Encodes, EncodedInto, StreamEncodes, TileEncodes}
 use Rattle.xcf_tile.specs.Answer.{usable_tile}
 
--- a refusal
-refused_answer : (n : ℕ) (e : List ℕ) → (n ≡ 0 → ⊥) → record { number = n; place = 0; length = 0 } ≡ encode_answer n e
-unfolding encode_answer
-refused_answer n e h = rw (ne_eqb n 0 h)
-
-refused_output : (n : ℕ) (e old : List ℕ) → (n ≡ 0 → ⊥) → old ≡ encode_output n e old
-unfolding encode_output
-refused_output n e old h = rw (ne_eqb n 0 h)
-
--- none
-stored_answer : (n : ℕ) (e : List ℕ) → n ≡ length e → record { number = 0; place = 0; length = n } ≡ encode_answer 0 e
-unfolding encode_answer
-stored_answer n e h = rw h
-
-stored_output : {old e : List ℕ} {r : ℕ} {new : List ℕ} → length e ≤ length old → Put old 0 e r new → new ≡ encode_output 0 e old
-unfolding encode_output
-stored_output {old} {e} h p = p.output ∙ rw (sets-eq e old 0 (omega arith), zero-add)
+-- a refusal: nothing is stored
+refused : (r : Reason) {refusal : ℕ} (encoding old : List ℕ) → refusal ≡ number_of r → (number_of r ≡ 0 → ⊥) → Encodes refusal encoding old (Err r) old
+unfolding encode_answer encode_output
+refused r encoding old e h = record { answer = rw (e, ne_eqb _ 0 h); output = rw (e, ne_eqb _ 0 h) }
 
 -- where nothing but room is asked for
-pub no_room_lem : (e old : List ℕ) → length old < length e → EncodedInto e old (record { number = Refusal.no_room; place = 0; length = 0 }) old
+pub no_room : (e old : List ℕ) → length old < length e → EncodedInto e old (Err reason.NoRoom) old
 unfolding room_refusal
-no_room_lem e old h =
-    let r : room_refusal (length e) (length old) ≡ Refusal.no_room = rw (lt-ltb _ _ h) in
-    record { answer = rw r (refused_answer 18 e (λ z. omega arith)); output = rw r (refused_output 18 e old (λ z. omega arith)) }
+no_room e old h = refused reason.NoRoom e old (rw (lt-ltb _ _ h)) (λ z. omega arith)
 
-pub stored : {e old : List ℕ} {r : ℕ} {new : List ℕ} → length e ≤ length old → Put old 0 e r new → EncodedInto e old (record { number = 0; place = 0; length = r }) new
-unfolding room_refusal
+pub stored : {e old : List ℕ} {r : ℕ} {new : List ℕ} → length e ≤ length old → Put old 0 e r new → EncodedInto e old (Ok r) new
+unfolding room_refusal encode_answer encode_output
 stored {e} {old} h p =
-    let r : room_refusal (length e) (length old) ≡ 0 = rw (le-ltb _ _ h) in
-    record { answer = rw r (stored_answer _ e (rw zero-add at p.behind)); output = rw r (stored_output h p) }
+    let size = rw zero-add at p.behind in
+    record { answer = rw (le-ltb _ _ h, size); output = rw (le-ltb _ _ h) (p.output ∙ rw (sets-eq e old 0 (omega arith), zero-add)) }
 
 -- a stream
-pub too_long_lem : (stream old : List ℕ) → stream_limit < length stream → StreamEncoded stream old (record { number = Refusal.wrong_buffer; place = 0; length = 0 }) old
+pub stream_long : (stream old : List ℕ) → stream_limit < length stream → StreamEncodes stream old (Err reason.WrongBuffer) old
 unfolding stream_refusal
-too_long_lem stream old h =
-    let r : stream_refusal stream (length old) ≡ Refusal.wrong_buffer = rw (lt-ltb _ _ h) in
-    record { answer = rw r (refused_answer 11 _ (λ z. omega arith)); output = rw r (refused_output 11 _ old (λ z. omega arith)) }
+stream_long stream old h = refused reason.WrongBuffer (encode_stream stream) old (rw (lt-ltb _ _ h)) (λ z. omega arith)
 
-pub stream_encoded : {stream old : List ℕ} {r : EncodeAnswer} {new : List ℕ} → length stream ≤ stream_limit → EncodedInto (encode_stream stream) old r new → StreamEncoded stream old r new
+pub stream_room : (stream old : List ℕ) → length stream ≤ stream_limit → room_refusal (length (encode_stream stream)) (length old) ≡ stream_refusal stream (length old)
 unfolding stream_refusal
-stream_encoded {stream} {old} h f =
-    let r : stream_refusal stream (length old) ≡ room_refusal (length (encode_stream stream)) (length old) = rw (le-ltb _ _ h) in
-    record { answer = rw r f.answer; output = rw r f.output }
+stream_room stream old h = rw (le-ltb _ _ h)
 
 -- a tile
 module _ (pixels : List ℕ) (w h depth : ℕ) (old : List ℕ) where
-  pub unusable : usable_tile w h depth ≡ false → TileEncoded pixels w h depth old (record { number = Refusal.unusable; place = 0; length = 0 }) old
+  pub unusable : usable_tile w h depth ≡ false → TileEncodes pixels w h depth old (Err reason.Unusable) old
   unfolding tile_refusal
-  unusable u =
-      let r : tile_refusal w h depth pixels (length old) ≡ Refusal.unusable = rw u in
-      record { answer = rw r (refused_answer 14 _ (λ z. omega arith)); output = rw r (refused_output 14 _ old (λ z. omega arith)) }
+  unusable u = refused reason.Unusable (encode_tile (w * h) depth pixels) old (rw u) (λ z. omega arith)
 
-  pub other_length : usable_tile w h depth ≡ true → (length pixels ≡ w * h * depth → ⊥) → TileEncoded pixels w h depth old (record { number = Refusal.wrong_buffer; place = 0; length = 0 }) old
+  pub other_length : usable_tile w h depth ≡ true → (length pixels ≡ w * h * depth → ⊥) → TileEncodes pixels w h depth old (Err reason.WrongBuffer) old
   unfolding tile_refusal
-  other_length u l =
-      let r : tile_refusal w h depth pixels (length old) ≡ Refusal.wrong_buffer = rw (u, ne_eqb _ _ l) in
-      record { answer = rw r (refused_answer 11 _ (λ z. omega arith)); output = rw r (refused_output 11 _ old (λ z. omega arith)) }
+  other_length u l = refused reason.WrongBuffer (encode_tile (w * h) depth pixels) old (rw (u, ne_eqb _ _ l)) (λ z. omega arith)
 
-pub tile_encoded : {pixels : List ℕ} {w h depth : ℕ} {old : List ℕ} {r : EncodeAnswer} {new : List ℕ} → usable_tile w h depth ≡ true → length pixels ≡ w * h * depth → EncodedInto (encode_tile (w * h) depth pixels) old r new → TileEncoded pixels w h depth old r new
-unfolding tile_refusal
-tile_encoded {pixels} {w} {h} {depth} {old} u l f =
-    let r : tile_refusal w h depth pixels (length old) ≡ room_refusal (length (encode_tile (w * h) depth pixels)) (length old) = rw (u, eq-eqb _ _ l) in
-    record { answer = rw r f.answer; output = rw r f.output }
+  pub tile_room : usable_tile w h depth ≡ true → length pixels ≡ w * h * depth → room_refusal (length (encode_tile (w * h) depth pixels)) (length old) ≡ tile_refusal w h depth pixels (length old)
+  unfolding tile_refusal
+  tile_room u l = rw (u, eq-eqb _ _ l)

@@ -1,5 +1,5 @@
 pub mod Answers
+pub mod Parts
 pub mod Planes
 pub mod StreamsBound
-pub mod StreamsLoop
 pub mod TileBound

@@ -6,14 +6,14 @@
 use mathlib.Core.Path.{◌≡◌, refl, sym, ap, ◌∙◌}
 use mathlib.Core.List.{List, ◌∷◌, ◌++◌, append-nil}
 use Prim.Native.Nat.{ℕ, zero, suc, ◌+◌, ◌*◌, ◌-◌, ◌≤◌, ◌<◌}
-use native.Mathlib.Nat.{mul-le-mul, zero-add, zero-mul, sub-zero, add-sub_cancel_left}
+use native.Mathlib.Nat.{zero-add, add-zero, zero-mul, sub-zero, add-sub_cancel_left}
 use native.Mathlib.Numerals.{add-one}
 use native.Mathlib.Omega.{arith}
 use borrow.Author.Count.{below_more}
 use lib.ListN.{length, get_or, set, take, drop, length-append, length-take, length-drop, length-set, take-append-drop, drop_of_length-le}
 use lib.Seq.{sets, sets-eq, take-append-le, drop-append-le, take_at, drop_at, drop-cons}
 use Rattle.xcf_encode.specs.Tile.{plane, planes}
-use Rattle.xcf_encode.specs.Parts.{parts, Pixels, StreamsRoom}
+use Rattle.xcf_encode.specs.Parts.{parts}
 use Rattle.xcf_laws.proofs.Steps.{one_more}
 
 pub plane_length : (n at depth : ℕ) (pixels : List ℕ) → length (plane n at depth pixels) ≡ n
@@ -30,26 +30,25 @@ sets_all : (l bs : List ℕ) → length bs ≡ length l → sets l 0 bs ≡ bs
 sets_all l bs e = rw (sets-eq bs l 0 (omega arith), zero-add, drop_of_length-le l {i = length bs} (omega arith)) (append-nil bs)
 
 -- the stream so far
-pub record GatherLeft (pixels start : List ℕ) (k depth from i : ℕ) (stream : List ℕ) : Type 0 where
-  pub along : from ≡ k + i * depth
-  pub inside : i ≤ length start
+pub record GatherLeft (pixels start : List ℕ) (k depth i : ℕ) (stream : List ℕ) : Type 0 where
   pub same : length stream ≡ length start
-  pub whole : sets stream i (plane (length start - i) from depth pixels) ≡ sets start 0 (plane (length start) k depth pixels)
+  pub whole : sets stream i (plane (length start - i) (k + i * depth) depth pixels) ≡ sets start 0 (plane (length start) k depth pixels)
 
-pub gather_start : (pixels start : List ℕ) (k depth : ℕ) → GatherLeft pixels start k depth k 0 start
-gather_start pixels start k depth = record { along = omega arith; inside = omega arith; same = refl; whole = rw sub-zero }
+pub gather_start : (pixels start : List ℕ) (k depth : ℕ) → GatherLeft pixels start k depth 0 start
+gather_start pixels start k depth = record { same = refl; whole = rw (sub-zero, zero-mul, add-zero) }
 
-module _ {pixels start : List ℕ} {k depth from i : ℕ} {stream : List ℕ} (g : GatherLeft pixels start k depth from i stream) where
-  pub gather_inside : Pixels pixels (length start) k depth → i < length start → from < length pixels
-  gather_inside p h = omega (arith, g.along, p.exact, p.below, one_more i (length start) depth h)
+-- byte k of pixel i
+pub pixel_inside : (pixels : List ℕ) (n k depth i : ℕ) → length pixels ≡ n * depth → k < depth → i < n → k + i * depth < length pixels
+pixel_inside pixels n k depth i e h l = omega (arith, e, one_more i n depth l)
 
-  pub gather_turn : i < length start → GatherLeft pixels start k depth (from + depth) (i + 1) (set stream i (get_or pixels from 0))
-  gather_turn h = record {
-    along = omega (arith, g.along);
-    inside = omega arith;
-    same = length-set stream i (get_or pixels from 0) ∙ g.same;
-    whole = rw add-one (rw (plane_next (length start) i from depth pixels h, add-one) at g.whole);
-  }
+module _ {pixels start : List ℕ} {k depth i : ℕ} {stream : List ℕ} (g : GatherLeft pixels start k depth i stream) where
+  pub gather_turn : i < length start → GatherLeft pixels start k depth (i + 1) (set stream i (get_or pixels (k + i * depth) 0))
+  gather_turn h =
+      let e : k + i * depth + depth ≡ k + (i + 1) * depth = omega arith in
+      record {
+        same = length-set stream i (get_or pixels (k + i * depth) 0) ∙ g.same;
+        whole = rw (← e, add-one) (rw (plane_next (length start) i (k + i * depth) depth pixels h, add-one) at g.whole);
+      }
 
   pub gather_whole : length start ≤ i → stream ≡ plane (length start) k depth pixels
   unfolding plane
@@ -74,40 +73,30 @@ before_kept l r a m n h i =
     ∙ ap (λ (x : List ℕ). take n (drop m x)) (take-append-drop a l)
 
 -- the planes so far
-pub record Gathered (pixels start : List ℕ) (n depth k at : ℕ) (planar : List ℕ) : Type 0 where
-  pub along : at ≡ k * n
-  pub inside : k ≤ depth
+pub record Gathered (pixels start : List ℕ) (n depth k : ℕ) (planar : List ℕ) : Type 0 where
   pub same : length planar ≡ length start
   pub each : (j : ℕ) → j < k → take n (drop (j * n) planar) ≡ plane n j depth pixels
 
-module _ {pixels start : List ℕ} {n depth k at : ℕ} {planar : List ℕ} (g : Gathered pixels start n depth k at planar) (s : StreamsRoom start n depth) (h : k < depth) where
-  pub plane_room : at + n ≤ length planar
-  plane_room = omega (arith, g.along, g.same, s.room, one_more k depth n h)
+module _ {pixels start : List ℕ} {n depth k : ℕ} {planar : List ℕ} (g : Gathered pixels start n depth k planar) (s : depth * n ≤ length start) (h : k < depth) where
+  pub plane_room : k * n + n ≤ length planar
+  plane_room = omega (arith, g.same, s, one_more k depth n h)
 
-  pub plane_pixels : length pixels ≡ n * depth → Pixels pixels (length (take (at + n - at) (drop at planar))) k depth
-  plane_pixels e = record {
-    exact = rw (part_length at n planar plane_room) e;
-    below = h;
-    small = omega (arith, e, s.deep, mul-le-mul s.short s.deep);
-  }
-
-  replaced : (part : List ℕ) → part ≡ plane n k depth pixels → Gathered pixels start n depth (k + 1) (at + n) (take at planar ++ (part ++ drop n (drop at planar)))
+  replaced : (part : List ℕ) → part ≡ plane n k depth pixels → Gathered pixels start n depth (k + 1) (take (k * n) planar ++ (part ++ drop n (drop (k * n) planar)))
   replaced part e =
+      let at = k * n in
       let room : at + n ≤ length planar = plane_room in
       let long : length (take at planar) ≡ at = rw length-take (omega arith) in
       let size : length part ≡ n = ap length e ∙ plane_length n k depth pixels in
       record {
-        along = omega (arith, g.along);
-        inside = omega arith;
         same = rw (length-append, length-append, long, size, length-drop, length-drop) (omega (arith, g.same));
         each =
             below_more (λ j. take n (drop (j * n) (take at planar ++ (part ++ drop n (drop at planar)))) ≡ plane n j depth pixels) k
-            (λ j l. before_kept planar _ at (j * n) n (omega arith) (omega (arith, g.along, one_more j k n l)) ∙ g.each j l)
-            (rw (drop_at (take at planar) (part ++ drop n (drop at planar)) (k * n) (long ∙ g.along), take_at part (drop n (drop at planar)) n size) e);
+            (λ j l. before_kept planar _ at (j * n) n (omega arith) (omega (arith, one_more j k n l)) ∙ g.each j l)
+            (rw (drop_at (take at planar) (part ++ drop n (drop at planar)) (k * n) long, take_at part (drop n (drop at planar)) n size) e);
       }
 
-  pub gathered_turn : (part : List ℕ) → part ≡ plane (length (take (at + n - at) (drop at planar))) k depth pixels → Gathered pixels start n depth (k + 1) (at + n) (take at planar ++ (part ++ drop (at + n - at) (drop at planar)))
-  gathered_turn part e = rw add-sub_cancel_left (replaced part (rw (part_length at n planar plane_room) at e))
+  pub gathered_turn : (part : List ℕ) → part ≡ plane n k depth pixels → Gathered pixels start n depth (k + 1) (take (k * n) planar ++ (part ++ drop (k * n + n - k * n) (drop (k * n) planar)))
+  gathered_turn part e = rw add-sub_cancel_left (replaced part e)
 
 -- parts that are planes one by one are the planes
 parts_planes : (count k n depth : ℕ) (pixels planar : List ℕ) → ((j : ℕ) → j < k + count → take n (drop (j * n) planar) ≡ plane n j depth pixels) → parts count (k * n) n planar ≡ planes count k n depth pixels
@@ -117,8 +106,8 @@ parts_planes (suc count) k n depth pixels planar each =
     let e : k * n + n ≡ (k + 1) * n = omega arith in
     rw (each k (omega arith), e, parts_planes count (k + 1) n depth pixels planar (λ j l. each j (omega arith)))
 
-pub gathered_all : {pixels start : List ℕ} {n depth k at : ℕ} {planar : List ℕ} → Gathered pixels start n depth k at planar → depth ≤ k → parts depth 0 n planar ≡ planes depth 0 n depth pixels
-gathered_all {pixels} {start} {n} {depth} {k} {at} {planar} g h =
+pub gathered_all : {pixels start : List ℕ} {n depth k : ℕ} {planar : List ℕ} → Gathered pixels start n depth k planar → depth ≤ k → parts depth 0 n planar ≡ planes depth 0 n depth pixels
+gathered_all {pixels} {start} {n} {depth} {k} {planar} g h =
     rw (zero-mul n) at (parts_planes depth 0 n depth pixels planar (λ j l. g.each j (omega arith)))
 
 -- pixels of one byte

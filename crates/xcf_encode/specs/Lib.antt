@@ -1,3 +1,4 @@
 pub mod Tile
 pub mod Answer
 pub mod Parts
+pub mod Streams

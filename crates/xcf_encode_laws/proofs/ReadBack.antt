@@ -12,10 +12,10 @@ use borrow.Author.Tests.{leb-true, lt-leb, lt-ltb, le-ltb, eqb-true}
 use lib.ListN.{length, get_or, take, drop, replicate, length-append, length-replicate, length-drop, take-append-drop}
 use lib.Seq.{get_or-append_seam, get_or-append-add, drop-append-add, drop-append_seam, take-append_seam}
 use lib.Dec.{leb, ltb, eqb}
+use Rattle.std.proofs.lemmas.Bool.{cond_both}
 use Rattle.xcf_operation.specs.Operation.{run_head, copy_head, pair, head_at, head_of, Operation, gives, unless_fails, operation_at, operation_of}
 use Rattle.xcf_stream.specs.Stream.{adds, stream_from, stream_at}
 use Rattle.xcf_stream.proofs.StreamLaws.{stream_done, stream_op}
-use Rattle.xcf_laws.proofs.Cases.{by_cases}
 use Rattle.xcf_segment.specs.Segment.{leading, equal_bytes, Segment, run_of, copy_of, size_of, first_segment, head_bytes, segments, segment_bytes, encode_stream}
 use Rattle.xcf_segment.proofs.Segments.{first, copied_length, first_some, first_inside, segments_nil, segments_cons, encode_nil, encode_cons, rest_shorter, by_length}
 
@@ -28,7 +28,7 @@ leading_bytes : (v : ℕ) (xs : List ℕ) → replicate (leading v xs) v ≡ tak
 unfolding leading
 leading_bytes v [] = refl
 leading_bytes v (x ∷ xs) =
-    by_cases (λ n. replicate n v ≡ take n (x ∷ xs)) (eqb x v) _ _
+    cond_both (eqb x v) _ _ (λ n. replicate n v ≡ take n (x ∷ xs))
     (λ e. cc (leading_bytes v xs, eqb-true x v e)) (λ _. refl)
 
 -- a run of the equal bytes is what stands there
@@ -72,7 +72,7 @@ module _ (a z : List ℕ) where
   -- short or long
   run_head_lem : (count : ℕ) → 0 < count → head_at (a ++ (head_bytes count (count - 1) 127 ++ z)) (length a) ≡ run_head count (length a + length (head_bytes count (count - 1) 127))
   run_head_lem count h =
-      by_cases (λ l. head_at (a ++ (l ++ z)) (length a) ≡ run_head count (length a + length l)) (leb count 127) _ _
+      cond_both (leb count 127) _ _ (λ l. head_at (a ++ (l ++ z)) (length a) ≡ run_head count (length a + length l))
       (λ s.
       let back : count - 1 + 1 ≡ count = omega arith in
       rw back at (short_run (count - 1) (omega (arith, leb-true))))
@@ -80,7 +80,7 @@ module _ (a z : List ℕ) where
 
   copy_head_lem : (count : ℕ) → 0 < count → head_at (a ++ (head_bytes count (256 - count) 128 ++ z)) (length a) ≡ copy_head count (length a + length (head_bytes count (256 - count) 128))
   copy_head_lem count h =
-      by_cases (λ l. head_at (a ++ (l ++ z)) (length a) ≡ copy_head count (length a + length l)) (leb count 127) _ _
+      cond_both (leb count 127) _ _ (λ l. head_at (a ++ (l ++ z)) (length a) ≡ copy_head count (length a + length l))
       (λ s.
       let back : 256 - (256 - count) ≡ count = omega (arith, leb-true) in
       rw back at (short_copy (256 - count) (omega (arith, leb-true))))

@@ -19,17 +19,20 @@ pub struct Frame {
     pub height: u32,
 }
 
-pub fn frame_of(row: Row, t: u32) -> Frame
-    requires { (1 ≤ row.width) × (row.width ≤ side_limit) }
-    ensures { result ≡ frame_of row t }
-{
-    let across = tiles_along(row.width) as u32;
-    let column = t % across;
-    let line = t / across;
-    Frame {
-        column,
-        line,
-        width: side_of(row.width, column),
-        height: side_of(row.height, line),
+impl Frame {
+    // The frame of tile t.
+    pub fn of(row: Row, t: u32) -> Frame
+        requires { (1 ≤ row.width) × (row.width ≤ side_limit) }
+        ensures { result ≡ frame_of row t }
+    {
+        let across = tiles_along(row.width) as u32;
+        let column = t % across;
+        let line = t / across;
+        Frame {
+            column,
+            line,
+            width: side_of(row.width, column),
+            height: side_of(row.height, line),
+        }
     }
 }

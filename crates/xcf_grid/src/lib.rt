@@ -10,16 +10,14 @@ ghost use Rattle.xcf_grid.specs.Grid.{tiles_along, side_of, tile_count, along_li
 
 use xcf_numbers::limit::TILE_SIDE;
 
-// A tile's side, and the last place in it, as wide as a count of pixels.
+// A tile's side, as wide as a count of pixels.
 const SIDE: u64 = TILE_SIDE as u64;
-
-const LAST: u64 = SIDE - 1;
 
 // How many tiles a side takes: at most 2^26.
 pub fn tiles_along(side: u32) -> u64
     ensures { (result ≡ tiles_along side) × (result ≤ along_limit) }
 {
-    (side as u64 + LAST) / SIDE
+    u64::from(side).div_ceil(SIDE)
 }
 
 // How many tiles a drawable of these sides has.
@@ -33,13 +31,7 @@ pub fn tile_count(width: u32, height: u32) -> u64
 pub fn side_of(side: u32, i: u32) -> u32
     ensures { result ≡ side_of side i }
 {
-    let start = SIDE * (i as u64);
-    if (side as u64) <= start {
-        return 0;
-    }
-    let left = side as u64 - start;
-    if left < SIDE {
-        return left as u32;
-    }
-    TILE_SIDE
+    let start = SIDE * u64::from(i);
+    let left = u64::from(side).saturating_sub(start);
+    left.min(SIDE) as u32
 }

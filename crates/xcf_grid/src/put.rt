@@ -10,15 +10,10 @@ fn put_lines(tile: &[u8], line: usize, n: u32, pixels: &mut [u8], at: usize, str
     requires { LineRoom pixels.old at stride tile.now 0 line n }
     ensures { pixels.new ≡ put_lines pixels.old at stride tile.now 0 line n }
 {
-    let mut from = 0;
-    let mut to = at;
-    let mut rest = n;
-    while 0 < rest {
-        let end = from + line;
-        pixels[to..to + line].copy_from_slice(&tile[from..end]);
-        from = end;
-        to += stride;
-        rest -= 1;
+    for j in 0..n {
+        let from = line * j as usize;
+        let to = at + stride * j as usize;
+        pixels[to..to + line].copy_from_slice(&tile[from..from + line]);
     }
 }
 

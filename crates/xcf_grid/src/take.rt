@@ -17,15 +17,10 @@ fn take_lines(pixels: &[u8], start: usize, stride: usize, line: usize, n: u32, t
     requires { LinesFit pixels.now start stride line n tile.old }
     ensures { tile.new ≡ sets tile.old 0 (lines pixels.now start stride line n) }
 {
-    let mut from = start;
-    let mut to = 0;
-    let mut rest = n;
-    while 0 < rest {
-        let end = from + line;
-        tile[to..to + line].copy_from_slice(&pixels[from..end]);
-        from += stride;
-        to += line;
-        rest -= 1;
+    for j in 0..n {
+        let from = start + stride * j as usize;
+        let to = line * j as usize;
+        tile[to..to + line].copy_from_slice(&pixels[from..from + line]);
     }
 }
 

@@ -1,15 +1,18 @@
 -- The loops over the rows of a table that count a kind and look for a new mode: what is left from row k on, with what was found
 -- before it, gives the whole. Each step unfolds one row.
 -- Assumes nothing.
-use Prim.Native.Nat.{ℕ, ◌+◌, ◌-◌, ◌≤◌, ◌<◌}
-use mathlib.Core.Path.{◌≡◌, refl}
+use Prim.Native.Nat.{ℕ, zero, suc, ◌+◌, ◌-◌, ◌≤◌, ◌<◌}
+use mathlib.Core.Path.{◌≡◌, refl, sym}
 use mathlib.Core.List.{List, [], ◌∷◌}
 use mathlib.Core.Bool.{Bool, true, false, cond}
+use mir.Val.{bool_byte}
 use native.Mathlib.Nat.{sub-zero, zero-add}
 use native.Mathlib.Omega.{arith}
-use borrow.Author.Tests.{eq-eqb, ne_eqb, le-leb, lt-leb}
+use borrow.Author.Tests.{le-leb, lt-leb}
 use lib.ListN.{length, length-append}
 use lib.Dec.{eqb}
+use Rattle.std.specs.Bool.{MatchBool}
+use Rattle.std.specs.List.{AllWithin, HoldsAt, range_with_len}
 use Rattle.xcf_numbers.specs.Limit.{new_mode}
 use Rattle.xcf_table.specs.declared.Row.{Row}
 use Rattle.xcf_table.specs.Table.{row_at}
@@ -27,6 +30,14 @@ pub record KindLeft (table : List ℕ) (n kind k count : ℕ) : Type 0 where
 pub kind_first : (table : List ℕ) (n kind : ℕ) → KindLeft table n kind 0 0
 kind_first table n kind = record { few = omega arith; most = omega arith; rest = rw (sub-zero, zero-add) }
 
+pub byte_most : (b : Bool) → bool_byte b ≤ 1
+byte_most true = omega arith
+byte_most false = omega arith
+
+byte_one : (b : Bool) → bool_byte b ≡ cond b 1 0
+byte_one true = refl
+byte_one false = refl
+
 pub one_when : (b : Bool) (p : ℕ) → length (when b (p ∷ [])) ≡ cond b 1 0
 one_when true p = refl
 one_when false p = refl
@@ -37,18 +48,11 @@ module _ {table : List ℕ} {n kind k count : ℕ} {r : Row} (g : KindLeft table
   unfolding kind_places rows_from
   kind_step = rw e (rw (rest_begins n k h, length-append, one_when) at g.rest)
 
-  pub kind_next : r.kind ≡ kind → KindLeft table n kind (k + 1) (count + 1)
+  pub kind_next : {one : ℕ} → one ≡ bool_byte (eqb r.kind kind) → KindLeft table n kind (k + 1) (count + one)
   kind_next is = record {
     few = omega arith;
-    most = omega (arith, g.most);
-    rest = omega (arith, rw (eq-eqb r.kind kind is) at kind_step);
-  }
-
-  pub kind_other : (r.kind ≡ kind → ⊥) → KindLeft table n kind (k + 1) count
-  kind_other other = record {
-    few = omega arith;
-    most = omega (arith, g.most);
-    rest = omega (arith, rw (ne_eqb r.kind kind other) at kind_step);
+    most = omega (arith, g.most, byte_most);
+    rest = omega (arith, is, byte_one (eqb r.kind kind), kind_step);
   }
 
 pub kind_over : {table : List ℕ} {n kind k count : ℕ} → KindLeft table n kind k count → n ≤ k
@@ -56,25 +60,29 @@ pub kind_over : {table : List ℕ} {n kind k count : ℕ} → KindLeft table n k
 unfolding kind_places rows_from
 kind_over {n} {k} g h = omega (arith, rw (rest_empty n k h) at g.rest)
 
--- no mode before row k is new
-pub record VersionLeft (table : List ℕ) (n k : ℕ) : Type 0 where
-  pub few : k ≤ n
-  pub rest : version_of (rows_from table (n - k) k) ≡ version_of (rows_from table n 0)
+either : (b : Bool) (n : ℕ) → cond b n n ≡ n
+either true n = refl
+either false n = refl
 
-pub version_first : (table : List ℕ) (n : ℕ) → VersionLeft table n 0
-version_first table n = record { few = omega arith; rest = rw sub-zero }
-
-module _ {table : List ℕ} {n k : ℕ} {r : Row} (g : VersionLeft table n k) (h : k < n) (e : r ≡ row_at table k) where
-  version_step : cond (is_new_mode r) 2 (version_of (rows_from table (n - (k + 1)) (k + 1))) ≡ version_of (rows_from table n 0)
-  unfolding version_of rows_from
-  version_step = rw e (rw (rest_begins n k h) at g.rest)
-
-  pub version_next : r.mode < new_mode → VersionLeft table n (k + 1)
-  version_next old = record { few = omega arith; rest = rw (lt-leb new_mode r.mode old) at version_step }
-
-  pub version_new : new_mode ≤ r.mode → 2 ≡ version_of (rows_from table n 0)
-  version_new new = rw (le-leb new_mode r.mode new) at version_step
-
-pub version_over : {table : List ℕ} {n k : ℕ} → VersionLeft table n k → n ≤ k → 0 ≡ version_of (rows_from table n 0)
+-- the version by the search for a row with a new mode, from row k on
+new_found : (table : List ℕ) (n k i : ℕ) → i < length (range_with_len k n) → HoldsAt (λ j. new_mode ≤ (row_at table j).mode) (range_with_len k n) i
+    → version_of (rows_from table n k) ≡ 2
 unfolding version_of rows_from
-version_over {n} {k} g h = rw (rest_empty n k h) at g.rest
+new_found table zero k i few h = absurd (omega arith)
+new_found table (suc n) k zero few h = rw (le-leb new_mode (row_at table k).mode (h 0))
+new_found table (suc n) k (suc i) few h = rw (new_found table n (k + 1) i (omega arith) (λ d. h d)) (either (is_new_mode (row_at table k)) 2)
+
+none_found : (table : List ℕ) (n k : ℕ) → AllWithin (λ j. (row_at table j).mode < new_mode) (range_with_len k n) 0 (length (range_with_len k n))
+    → version_of (rows_from table n k) ≡ 0
+unfolding version_of rows_from
+none_found table zero k h = refl
+none_found table (suc n) k h =
+    let old : (row_at table k).mode < new_mode = h 0 0 (omega arith) (omega arith) in
+    rw (lt-leb new_mode _ old) (none_found table n (k + 1) (λ i d low few. h (suc i) d (omega arith) (omega arith)))
+
+pub version_told : (table : List ℕ) (n : ℕ) (r : Bool)
+    → MatchBool r ((i : ℕ) × (i < length (range_with_len 0 n)) × HoldsAt (λ j. new_mode ≤ (row_at table j).mode) (range_with_len 0 n) i)
+    (AllWithin (λ j. (row_at table j).mode < new_mode) (range_with_len 0 n) 0 (length (range_with_len 0 n)))
+    → cond r 2 0 ≡ version_of (rows_from table n 0)
+version_told table n true h = sym (new_found table n 0 h.0 h.1 h.2)
+version_told table n false h = sym (none_found table n 0 h)

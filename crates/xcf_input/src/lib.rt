@@ -11,11 +11,10 @@ pub fn read_full<R: Read>(from: &mut R, to: &mut [u8]) -> usize
 {
     let mut n = 0;
     while n < to.len() {
-        let got = from.read(&mut to[n..]).unwrap_or(0);
-        if got == 0 {
-            return n;
+        match from.read(&mut to[n..]) {
+            Ok(0) | Err(_) => return n,
+            Ok(got) => n += got,
         }
-        n += got;
     }
     n
 }

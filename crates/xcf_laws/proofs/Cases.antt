@@ -1,16 +1,11 @@
--- Choices: what holds of both branches holds of the choice; one of two numbers is below the other or not, and equal to it or not; a
--- choice by the opposite test, and between two of the same.
+-- Choices: one of two numbers is below the other or not, and equal to it or not; a choice between two of the same.
 -- Assumes nothing.
 use mathlib.Core.Path.{◌≡◌, refl}
-use mathlib.Core.Bool.{Bool, true, false, cond, not}
+use mathlib.Core.Bool.{Bool, true, false, cond}
 use Prim.Native.Nat.{ℕ, ◌≤◌, ◌<◌}
 use mathlib.Core.Logic.{◌⊎◌, inl, inr, ⊎_elim}
 use borrow.Author.Tests.{leb-true, leb-false, eqb-true, eqb-false}
 use lib.Dec.{leb, eqb}
-
-pub by_cases : {A : Type 0} (P : A → Type 0) (b : Bool) (x y : A) → (b ≡ true → P x) → (b ≡ false → P y) → P (cond b x y)
-by_cases P true x y f g = f refl
-by_cases P false x y f g = g refl
 
 pub below_or : (a b : ℕ) → (a < b) ⊎ (b ≤ a)
 below_or a b = go (leb b a) refl
@@ -28,10 +23,6 @@ equal_unless a b h = go (eqb a b) refl
     go : (t : Bool) → eqb a b ≡ t → a ≡ b
     go true e = eqb-true a b e
     go false e = absurd (h (eqb-false a b e))
-
-pub cond_not : {A : Type 0} (b : Bool) (x y : A) → cond (not b) x y ≡ cond b y x
-cond_not true x y = refl
-cond_not false x y = refl
 
 pub cond_same : {A : Type 0} (b : Bool) (x : A) → cond b x x ≡ x
 cond_same true x = refl

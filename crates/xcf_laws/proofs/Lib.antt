@@ -1,5 +1,4 @@
 pub mod Steps
 pub mod Cases
 pub mod Products
-pub mod Tails
 pub mod FlatMaps

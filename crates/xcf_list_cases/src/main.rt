@@ -38,27 +38,17 @@ fn print_case(
 }
 
 // The cases up to the first argument that is missing, empty or too long.
-fn print_cases(
-    rt: &HostRuntime,
-    name: &mut [u8],
-    input: &mut [u8],
-    table: &mut [u32],
-    text: &mut [u8],
-) -> io::Result<()> {
-    for i in 1..=CASES {
-        let n = rt.arg(i, name).unwrap_or(0);
-        if n == 0 {
-            return Ok(());
-        }
-        print_case(rt, &name[..n], input, table, text)?;
-    }
-    Ok(())
-}
-
 fn main(rt: HostRuntime) -> io::Result<()> {
     let mut name = [0u8; 256];
     let mut input = [0u8; INPUT_SIZE];
     let mut table = [0u32; TABLE_SIZE];
     let mut text = [0u8; TEXT_SIZE];
-    print_cases(&rt, &mut name, &mut input, &mut table, &mut text)
+    for i in 1..=CASES {
+        let n = rt.arg(i, &mut name).unwrap_or(0);
+        if n == 0 {
+            return Ok(());
+        }
+        print_case(&rt, &name[..n], &mut input, &mut table, &mut text)?;
+    }
+    Ok(())
 }

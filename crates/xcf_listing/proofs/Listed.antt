@@ -5,7 +5,7 @@
 use mathlib.Core.Path.{◌≡◌, refl, sym, ap, ◌∙◌}
 use mathlib.Core.List.{List, ◌++◌}
 use mathlib.Core.Bool.{true, false, and-eq-true_iff}
-use mathlib.Core.Logic.{⊎_elim}
+use mathlib.Core.Logic.{◌⊎◌, inl, inr, ⊎_elim}
 use Prim.Native.Nat.{ℕ, ◌≤◌, ◌<◌}
 use native.Mathlib.Nat.{zero-add}
 use native.Mathlib.Omega.{arith}
@@ -13,13 +13,14 @@ use borrow.Author.Tests.{le-leb, lt-leb, eq-eqb, ne_eqb, leb-true}
 use lib.Dec.{leb, eqb}
 use lib.ListN.{length, drop, length-append}
 use lib.Seq.{sets-eq, length-take-le}
+use Rattle.std.proofs.lemmas.Bool.{cond_both}
 use Rattle.xcf_numbers.specs.Limit.{file_limit, table_rows, table_size}
 use Rattle.xcf_numbers.specs.Kind
 use Rattle.xcf_numbers.specs.Refusal
 use Rattle.io.specs.Counts.{IsPrefixLen}
 use Rattle.xcf_store.specs.Put.{PutWithin}
 use Rattle.xcf_walk.specs.Walk.{Outcome, got, refused, run}
-use Rattle.xcf_laws.proofs.Cases.{below_or, by_cases}
+use Rattle.xcf_laws.proofs.Cases.{below_or}
 use Rattle.xcf_table.specs.Table.{row_at}
 use Rattle.xcf_read.specs.declared.ReadAnswer.{ReadAnswer}
 use Rattle.xcf_read.specs.Image.{Image, image}
@@ -57,8 +58,8 @@ listable file table read n =
 no_rows : (file table : List ℕ) → ((reading file table).answer.number ≡ 0 → ⊥) → (reading file table).answer.rows ≡ 0
 unfolding reading
 no_rows file table =
-    by_cases Says (eqb (length table) table_size) _ _
-    (λ _. by_cases Says (leb (length file) file_limit) _ _ (λ _. walked (run image file 0)) (λ _ _. refl))
+    cond_both (eqb (length table) table_size) _ _ Says
+    (λ _. cond_both (leb (length file) file_limit) _ _ Says (λ _. walked (run image file 0)) (λ _ _. refl))
     (λ _ _. refl)
   where
     Says : Reading → Type 0
@@ -132,7 +133,7 @@ module _ (limit : ℕ) (file table text : List ℕ) where
 listing_inside : (limit : ℕ) (file table text : List ℕ) → let x = listing limit file table text in x.answer.length ≤ length x.text
 unfolding listing answer_of
 listing_inside limit file table text =
-    by_cases (λ (x : Listing). x.answer.length ≤ length x.text) (lent_fits (length table) (length text)) _ _
+    cond_both (lent_fits (length table) (length text)) _ _ (λ (x : Listing). x.answer.length ≤ length x.text)
     (λ _. simp length-append (omega arith)) (λ _. omega arith)
 
 -- the bytes of the listing are counted, so that a caller can take them
@@ -148,13 +149,10 @@ pub lists_printed : {file table text : List ℕ} {r : ListAnswer} {after new : L
 lists_printed l = rw l.answer at l
 
 -- the tests of the lent table and text
-pub fits_not_table : (table text : ℕ) → (table ≡ table_size → ⊥) → lent_fits table text ≡ false
+pub fits_not : (table text : ℕ) → (table ≡ table_size → ⊥) ⊎ ((table ≡ table_size) × (text < text_size)) → lent_fits table text ≡ false
 unfolding lent_fits
-fits_not_table table text n = rw (ne_eqb _ _ n)
-
-pub fits_not_text : (table text : ℕ) → table ≡ table_size → text < text_size → lent_fits table text ≡ false
-unfolding lent_fits
-fits_not_text table text t n = rw (eq-eqb _ _ t, lt-leb _ _ n)
+fits_not table text (inl n) = rw (ne_eqb _ _ n)
+fits_not table text (inr n) = rw (eq-eqb _ _ n.0, lt-leb _ _ n.1)
 
 pub fits_both : (table text : ℕ) → table ≡ table_size → text_size ≤ text → lent_fits table text ≡ true
 unfolding lent_fits

@@ -11,10 +11,10 @@ use native.Mathlib.Omega.{arith}
 use borrow.Author.Tests.{eqb-true}
 use lib.Dec.{eqb}
 use lib.ListN.{length}
+use Rattle.std.proofs.lemmas.Bool.{cond_both}
 use Rattle.xcf_walk.specs.Walk.{Outcome, got, refused, run}
 use Rattle.xcf_table.specs.declared.Row.{Row}
 use Rattle.xcf_table.specs.Table.{row_at}
-use Rattle.xcf_laws.proofs.Cases.{by_cases}
 use Rattle.xcf_walk.specs.Pointers.{tiles}
 use Rattle.xcf_grid.proofs.FewTiles.{few_tiles}
 use Rattle.xcf_decode.specs.declared.DecodeAnswer.{DecodeAnswer}
@@ -46,7 +46,7 @@ refusal_none : (size : ℕ) (file : List ℕ) (n : ℕ) (r : Row) (compression :
 unfolding drawable_refusal
 refusal_none size file n r compression =
     let row = row_refusal size (length file) n r compression in
-    by_cases (λ (a : DecodeAnswer). a.marked ≡ 0) (eqb row 0) (pointers_refusal (run (tiles size r.count 0) file r.pointers)) (refusal row 0)
+    cond_both (eqb row 0) (pointers_refusal (run (tiles size r.count 0) file r.pointers)) (refusal row 0) (λ (a : DecodeAnswer). a.marked ≡ 0)
     (λ _. outcome_none (run (tiles size r.count 0) file r.pointers)) (λ _. refl)
 
 pub marked_few : (size : ℕ) (file table : List ℕ) (k compression : ℕ) → (counting size file table k compression).marked ≤ 65536
@@ -55,7 +55,7 @@ marked_few size file table k compression =
     let r = row_at table k in
     let n = length table in
     let answer = drawable_refusal size file n r compression true in
-    by_cases (λ (a : DecodeAnswer). a.marked ≤ 65536) (eqb answer.number 0) (counted (marks_of size file r compression)) answer
+    cond_both (eqb answer.number 0) (counted (marks_of size file r compression)) answer (λ (a : DecodeAnswer). a.marked ≤ 65536)
     (λ e. range_few size compression file (drawable_ready size file n r compression true (eqb-true _ 0 e)).0.range)
     (λ _. omega (arith, refusal_none size file n r compression))
 

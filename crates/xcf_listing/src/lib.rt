@@ -4,18 +4,22 @@
 pub mod print;
 mod rows;
 
-ghost use Rattle.std.specs.Prelude.{◌≡◌, ◌++◌, ◌≤◌, length};
+ghost use Rattle.std.specs.Prelude.{◌≡◌, ◌+◌, ◌++◌, ◌≤◌, length};
 ghost use Rattle.io.specs.Counts.{IsPrefixLen};
 ghost use Rattle.xcf_numbers.specs.Limit.{table_rows, table_size};
+ghost use Rattle.xcf_numbers.specs.Reason.{number_of};
 ghost use Rattle.xcf_store.specs.Put.{PutWithin};
+ghost use Rattle.xcf_text.specs.Stores.{StoresWithin};
 ghost use Rattle.xcf_line.specs.Line.{refused_line, canvas_line};
-ghost use Rattle.xcf_listing.specs.Listing.{row_lines, marked_tiles, text_size, list_answer, not_listed, Lists};
+ghost use Rattle.xcf_listing.specs.Listing.{row_lines, marked_tiles, text_size, list_answer, Lists};
 
 use crate::rows::put_rows;
 use xcf_line::{put_canvas, put_refusal};
 use xcf_numbers::limit::TABLE_SIZE;
-use xcf_numbers::refusal;
+use xcf_numbers::reason::Reason;
+use xcf_numbers::refusal::ACCEPTED;
 use xcf_read::ReadAnswer;
+use xcf_store::output::Output;
 
 // Room for every listing.
 pub const TEXT_SIZE: usize = 65536;
@@ -41,16 +45,32 @@ pub struct ListAnswer {
 }
 
 // The call's own refusal.
-fn not_listed() -> ListAnswer
-    ensures { result ≡ not_listed }
+impl From<Reason> for ListAnswer {
+    ghost from_gives = { λ e r. r ≡ record { number = number_of e; place = 0; refused = 0; at = 0; marked = 0; length = 0 } };
+
+    fn from(reason: Reason) -> ListAnswer {
+        ListAnswer {
+            number: reason.into(),
+            place: 0,
+            refused: 0,
+            at: 0,
+            marked: 0,
+            length: 0,
+        }
+    }
+}
+
+// The answer beside a listing.
+fn list_answer(refused: u64, at: u64, marked: u64, length: usize) -> ListAnswer
+    ensures { result ≡ list_answer refused at marked length }
 {
     ListAnswer {
-        number: refusal::WRONG_BUFFER,
+        number: ACCEPTED,
         place: 0,
-        refused: 0,
-        at: 0,
-        marked: 0,
-        length: 0,
+        refused,
+        at,
+        marked,
+        length: length as u64,
     }
 }
 
@@ -60,15 +80,23 @@ fn list_refused(text: &mut [u8], refused: u64, at: u64) -> ListAnswer
     ensures value { result ≡ list_answer refused at 0 result.length }
     ensures put_within { PutWithin text.old 0 (refused_line refused at) text_size result.length text.new }
 {
-    let end = put_refusal(text, refused, at);
-    ListAnswer {
-        number: 0,
-        place: 0,
-        refused,
-        at,
-        marked: 0,
-        length: end as u64,
-    }
+    let mut lines = Output { bytes: text, at: 0 };
+    put_refusal(&mut lines, refused, at);
+    list_answer(refused, at, 0, lines.at)
+}
+
+// The canvas's line, and the rows' behind it. Gives how many tiles of the rows are marked.
+fn put_lines(file: &[u8], table: &[u32], answer: ReadAnswer, text: &mut Output<'_>) -> u64
+    requires { (answer.compression ≤ 1) × (answer.rows ≤ table_rows) × (length table.now ≡ table_size) × (text.old.at + text_size ≤ length text.old.bytes.now) }
+    ensures stores { StoresWithin text.old (canvas_line answer ++ row_lines answer.size file.now table.now answer.compression 0 answer.rows) text_size text.new }
+    ensures marked { result ≡ marked_tiles answer.size file.now table.now answer.compression 0 answer.rows }
+    ensures same { text.new.bytes.ghost_name ≡ text.old.bytes.ghost_name }
+{
+    let compression = answer.compression as u32;
+    let size = answer.size as usize;
+    let rows = answer.rows as u32;
+    put_canvas(text, answer);
+    put_rows(file, table, compression, size, rows, text)
 }
 
 // The lines of a file that is accepted.
@@ -77,24 +105,9 @@ fn list_accepted(file: &[u8], table: &[u32], answer: ReadAnswer, text: &mut [u8]
     ensures value { result ≡ list_answer 0 0 (marked_tiles answer.size file.now table.now answer.compression 0 answer.rows) result.length }
     ensures put_within { PutWithin text.old 0 (canvas_line answer ++ row_lines answer.size file.now table.now answer.compression 0 answer.rows) text_size result.length text.new }
 {
-    let at = put_canvas(text, answer);
-    let lines = put_rows(
-        file,
-        table,
-        answer.compression as u32,
-        answer.size as usize,
-        answer.rows as u32,
-        text,
-        at,
-    );
-    ListAnswer {
-        number: 0,
-        place: 0,
-        refused: 0,
-        at: 0,
-        marked: lines.marked,
-        length: lines.end as u64,
-    }
+    let mut lines = Output { bytes: text, at: 0 };
+    let marked = put_lines(file, table, answer, &mut lines);
+    list_answer(0, 0, marked, lines.at)
 }
 
 // The listing of a file, at the text's start, and the reader's table; a file of more than `limit` bytes is refused. A table of another
@@ -103,17 +116,14 @@ pub fn list(file: &[u8], limit: usize, table: &mut [u32], text: &mut [u8]) -> Li
     ensures lists { Lists limit file.now table.old text.old result table.new text.new }
     ensures prefix_len { IsPrefixLen result.length text.new }
 {
-    if table.len() != TABLE_SIZE {
-        return not_listed();
-    }
-    if text.len() < TEXT_SIZE {
-        return not_listed();
+    if table.len() != TABLE_SIZE || text.len() < TEXT_SIZE {
+        return Reason::WrongBuffer.into();
     }
     if limit < file.len() {
-        return list_refused(text, refusal::TOO_LONG, 0);
+        return list_refused(text, Reason::TooLong.into(), 0);
     }
     let answer = xcf_read::read(file, table);
-    if answer.number != 0 {
+    if answer.number != ACCEPTED {
         return list_refused(text, answer.number, answer.place);
     }
     list_accepted(file, table, answer, text)

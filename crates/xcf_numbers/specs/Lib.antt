@@ -1,5 +1,7 @@
 pub mod Refusal
 pub mod Listed
+pub mod Reason
+pub mod Fault
 pub mod Mark
 pub mod Kind
 pub mod Base

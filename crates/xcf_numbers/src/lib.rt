@@ -2,11 +2,12 @@
 #![tactic(auto)]
 
 pub mod base;
+pub mod fault;
 pub mod flag;
 pub mod kind;
 pub mod limit;
-pub mod mark;
 pub mod precision;
 pub mod property_type;
+pub mod reason;
 pub mod refusal;
 pub mod version;

@@ -1,108 +1,103 @@
 // One operation of an encoded stream.
 #![tactic(auto)]
 
-ghost use Rattle.std.specs.Prelude.{◌≡◌, ◌≤◌, ◌<◌, length};
-ghost use Rattle.xcf_operation.specs.Operation.{head_at};
-ghost use Rattle.xcf_operation.specs.Parts.{head_read, HeadInside, data_size, found, found_at};
+ghost use Rattle.std.specs.Prelude.{◌≡◌, ◌≤◌, length, IfOk, IfSome};
+ghost use Rattle.xcf_operation.specs.Operation.{head_at, operation_at};
+ghost use Rattle.xcf_operation.specs.Parts.{head_read, given, operation_read, DataOf};
 
-// An opcode with its length bytes: whether the operation is a run or a copy, how many bytes it gives, and where its data starts.
-#[derive(Drop)]
-pub enum HeadRead {
-    Whole {
-        run: bool,
-        count: usize,
-        body: usize,
-    },
-    Cut,
+use xcf_numbers::fault::Fault;
+
+// A run gives one byte again and again, a copy the bytes that stand in the window.
+#[derive(Clone, Copy)]
+enum Kind {
+    Run,
+    Copy,
 }
 
-// An operation in a stream that still takes so many bytes: a run of the byte at `from`, or the bytes copied from there.
-#[derive(Drop)]
-pub enum OperationRead {
-    Given {
-        run: bool,
-        from: usize,
-        count: usize,
-        next: usize,
-    },
-    Short,
-    Over,
+// An opcode with its length bytes: a run or a copy, how many bytes it gives, and where its data starts.
+#[derive(Clone, Copy)]
+struct Head {
+    kind: Kind,
+    count: usize,
+    body: usize,
 }
 
-fn wide(x: u8) -> usize
-    ensures { (result ≡ x) × (result < 256) }
-{
-    x as usize
+// What an operation gives: a byte, `count` times, or bytes of the window.
+#[derive(Clone, Copy)]
+pub enum Bytes<'a> {
+    Run { value: u8, count: usize },
+    Copy(&'a [u8]),
 }
 
-fn head_at(window: &[u8], at: usize) -> HeadRead
-    ensures { (head_read result ≡ head_at window.now at) × HeadInside window.now result }
-{
-    if window.len() <= at {
-        return HeadRead::Cut;
+impl Bytes<'_> {
+    pub fn len(&self) -> usize
+        ensures { result ≡ length (given self.now) }
+    {
+        match self {
+            Bytes::Run { count, .. } => *count,
+            Bytes::Copy(bytes) => bytes.len(),
+        }
     }
-    let code = wide(window[at]);
-    if code < 127 {
-        return HeadRead::Whole {
-            run: true,
-            count: code + 1,
+}
+
+// An operation in a stream, and the place behind it.
+#[derive(Clone, Copy)]
+pub struct Operation<'a> {
+    pub bytes: Bytes<'a>,
+    pub next: usize,
+}
+
+// The head at a place, unless the window ends before it does.
+#[tactic(auto, unfolding(crate::specs::Operation::head_at, crate::specs::Operation::head_of))]
+fn head_at(window: &[u8], at: usize) -> Option<Head>
+    ensures head { head_read result ≡ head_at window.now at }
+    ensures inside { IfSome result (λ h. h.body ≤ length window.now) }
+{
+    match window.get(at..)? {
+        [code @ 0..127, ..] => Some(Head {
+            kind: Kind::Run,
+            count: usize::from(*code) + 1,
             body: at + 1,
-        };
-    }
-    if 128 < code {
-        return HeadRead::Whole {
-            run: false,
-            count: 256 - code,
+        }),
+        [code @ 129.., ..] => Some(Head {
+            kind: Kind::Copy,
+            count: 256 - usize::from(*code),
             body: at + 1,
-        };
-    }
-    if window.len() - at < 3 {
-        return HeadRead::Cut;
-    }
-    let count = wide(window[at + 1]) * 256 + wide(window[at + 2]);
-    HeadRead::Whole {
-        run: code == 127,
-        count,
-        body: at + 3,
+        }),
+        [code, p, q, ..] => Some(Head {
+            kind: if *code == 127 { Kind::Run } else { Kind::Copy },
+            count: usize::from(u16::from_be_bytes([*p, *q])),
+            body: at + 3,
+        }),
+        _ => None,
     }
 }
 
-// A run's data is the byte that it repeats, a copy's the bytes copied.
-fn data_size(run: bool, count: usize) -> usize
-    ensures { result ≡ data_size run count }
+// The operation at a place of a stream that still takes `left` bytes.
+#[tactic(auto, unfolding(crate::specs::Operation::operation_at, crate::specs::Operation::operation_of))]
+pub fn operation_at(window: &[u8], at: usize, left: usize) -> Result<Operation<'_>, Fault>
+    ensures gives { operation_read result ≡ operation_at window.now at left }
+    ensures data { IfOk result (λ o. DataOf window.now (head_at window.now at) o.bytes) }
 {
-    if run {
-        return 1;
-    }
-    count
-}
-
-// Whether the stream takes `count` more bytes, and then whether the data stands at `body`.
-fn operation_of(window: &[u8], left: usize, run: bool, count: usize, body: usize) -> OperationRead
-    requires { body ≤ length window.now }
-    ensures { result ≡ found window.now left run count body }
-{
-    let size = data_size(run, count);
-    let rest = window.len() - body;
+    let Head { kind, count, body } = head_at(window, at).ok_or(Fault::Short)?;
     if left < count {
-        return OperationRead::Over;
+        return Err(Fault::Overrun);
     }
-    if rest < size {
-        return OperationRead::Short;
-    }
-    OperationRead::Given {
-        run,
-        from: body,
-        count,
-        next: body + size,
-    }
-}
-
-pub fn operation_at(window: &[u8], at: usize, left: usize) -> OperationRead
-    ensures { result ≡ found_at window.now at left }
-{
-    match head_at(window, at) {
-        HeadRead::Cut => OperationRead::Short,
-        HeadRead::Whole { run, count, body } => operation_of(window, left, run, count, body),
+    let data = &window[body..];
+    match kind {
+        Kind::Run => {
+            let value = *data.first().ok_or(Fault::Short)?;
+            Ok(Operation {
+                bytes: Bytes::Run { value, count },
+                next: body + 1,
+            })
+        }
+        Kind::Copy => {
+            let bytes = data.get(..count).ok_or(Fault::Short)?;
+            Ok(Operation {
+                bytes: Bytes::Copy(bytes),
+                next: body + count,
+            })
+        }
     }
 }

@@ -1,4 +1,2 @@
-pub mod Same
-pub mod Places
 pub mod Pointers
-pub mod Versions
+pub mod Lists

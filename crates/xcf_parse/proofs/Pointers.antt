@@ -1,21 +1,19 @@
--- The parts of a hierarchy: a word that agrees passes over bytes of the file (`advances_agrees`); a turn over the further
--- pointers leads where its pointer does (`rest_turn_lem`) and moves on where it was no 0 (`rest_moves`).
+-- The parts of a hierarchy: a word that agrees passes over bytes of the file (`advances_agrees`), and so does a further pointer
+-- (`advances_rest_turn`), which is a turn of their loop (`rest_turned`, `rest_refused`).
 -- Assumes nothing.
 use Prim.Native.Nat.{ℕ, ◌≤◌}
-use mathlib.Core.List.{List}
-use mathlib.Core.Bool.{not}
-use borrow.Author.Tests.{eqb-false, not-true}
+use mathlib.Core.Path.{refl}
+use mathlib.Core.Bool.{cond}
 use lib.Dec.{eqb}
+use Rattle.std.specs.Prelude.{Ok, Err}
+use Rattle.xcf_numbers.specs.declared.reason.Refusal.{Refusal}
 use Rattle.xcf_walk.specs.declared.cursor.Cursor.{Cursor}
-use Rattle.xcf_walk.specs.Walk.{here}
+use Rattle.xcf_walk.specs.Walk.{here, Turn, more, last}
+use Rattle.xcf_walk.specs.Cursor.{WalksBy, Walks}
+use Rattle.xcf_walk.proofs.Steps.{then, stops, ends}
 use Rattle.xcf_walk.specs.Fields.{number, word}
-use Rattle.xcf_walk.specs.Cursor.{Leads, Reads, turn_of}
-use Rattle.xcf_laws.proofs.Cases.{cond_not}
-use Rattle.xcf_walk.proofs.Straight.{Straight, straight_bind, straight_here, straight_word, straight_must}
+use Rattle.xcf_walk.proofs.Straight.{Straight, straight_bind, straight_done, straight_here, straight_word, straight_number, straight_must}
 use Rattle.xcf_walk.proofs.Advances.{Advances, advances_next, advances_first, advances_number, advances_word}
-use Rattle.xcf_walk.proofs.Within.{read_is_live, moves_on}
-use Rattle.xcf_walk.proofs.Resume.{then, ends}
-use Rattle.xcf_walk.proofs.Loops.{Moves}
 use Rattle.xcf_parse.specs.Hierarchy.{agrees, rest_turn}
 
 straight_agrees : (v : ℕ) → Straight (agrees v)
@@ -26,10 +24,19 @@ pub advances_agrees : (v : ℕ) → Advances (agrees v)
 unfolding agrees
 advances_agrees v = advances_next here _ (straight_agrees v) λ at r. advances_first word _ r advances_word
 
-module _ (size : ℕ) {c d : Cursor} {f : List ℕ} {v : ℕ} (r : Reads c (number size) f 0 d v) where
-  pub rest_turn_lem : Leads c (rest_turn size tt) f d (turn_of (not (eqb v 0)) tt)
-  unfolding rest_turn
-  rest_turn_lem = then _ r.leads (rw cond_not ends)
+pub advances_rest_turn : (size : ℕ) → 1 ≤ size → Advances (rest_turn size tt)
+unfolding rest_turn
+advances_rest_turn size some = advances_first (number size) _ (straight_bind _ (straight_number size) (λ p. straight_done)) (advances_number size some)
 
-  pub rest_moves : 1 ≤ size → Moves f (not (eqb v 0)) c d
-  rest_moves some e = moves_on (advances_number size some) r.leads (read_is_live r (eqb-false _ _ (not-true _ e)))
+-- a number is a turn over the further pointers, and 0 the last
+abbrev pub rest_turns : ℕ → Turn (Unit {0}) (Unit {0})
+rest_turns p = cond (eqb p 0) (last tt) (more tt)
+
+module _ (size : ℕ) {c d : Cursor} where
+  pub rest_turned : {p : ℕ} → Walks (number size) c (Ok p) d → WalksBy rest_turns (rest_turn size tt) c (Ok p) d
+  unfolding rest_turn
+  rest_turned t = then _ t (ends _ refl)
+
+  pub rest_refused : {e : Refusal} → Walks (number size) c (Err e) d → WalksBy rest_turns (rest_turn size tt) c (Err e) d
+  unfolding rest_turn
+  rest_refused t = stops _ t refl

@@ -1,11 +1,12 @@
-// The first bytes of a file, compared with fixed byte strings.
-ghost use Rattle.std.specs.Prelude.{◌≡◌, length, get_or};
-ghost use Rattle.xcf_store.specs.Word.{part};
-ghost use Rattle.xcf_walk.specs.Cursor.{Leads};
-ghost use Rattle.xcf_parse.specs.Header.{same, versions, tags, place_in, header};
+// The first bytes of a file: fixed byte strings.
+ghost use Rattle.std.specs.Prelude.{◌≡◌};
+ghost use Rattle.xcf_walk.specs.Cursor.{Walks};
+ghost use Rattle.xcf_parse.specs.Header.{same, header};
+ghost use Rattle.xcf_parse.specs.Parts.{VersionOf};
 
-use xcf_numbers::{refusal, version};
-use xcf_walk::cursor::Cursor;
+use xcf_numbers::reason::{Reason, Refusal};
+use xcf_numbers::version;
+use xcf_walk::cursor::{Cursor, require};
 
 pub const MAGIC: [u8; 9] = *b"gimp xcf ";
 
@@ -19,83 +20,48 @@ pub const V003: [u8; 5] = *b"v003\0";
 
 pub const V011: [u8; 5] = *b"v011\0";
 
-// How many tags there are, and their versions, in this order.
-const TAG_COUNT: u32 = 5;
-
-const VERSIONS: [u32; TAG_COUNT as usize] = [0, 1, 2, 3, version::WIDE];
-
-#[derive(Clone, Copy)]
-pub struct VersionRead {
-    pub version: u32,
-    pub cursor: Cursor,
+// Whether two byte strings are the same.
+fn same(bytes: &[u8], text: &[u8]) -> bool
+    ensures { result ≡ same bytes.now text.now }
+{
+    bytes == text
 }
 
-// Whether the bytes of want stand in the file at a place.
-fn stands(file: &[u8], at: usize, want: &[u8]) -> bool
-    ensures { result ≡ same (part file.now at (length want.now)) want.now }
+// The tags of the versions that are read.
+const TAGS: [([u8; 5], u32); 5] = [
+    (FILE, 0),
+    (V001, 1),
+    (V002, 2),
+    (V003, 3),
+    (V011, version::WIDE),
+];
+
+// The version of a tag that is known.
+fn version_of(tag: &[u8]) -> Option<u32>
+    ensures { VersionOf tag.now result }
 {
-    let n = want.len();
-    if file.len() < at {
-        return n == 0;
-    }
-    if file.len() - at < n {
-        return false;
-    }
-    let mut i = 0;
-    while i < n {
-        if file[at + i] != want[i] {
-            return false;
+    for (known, version) in TAGS {
+        if same(tag, &known) {
+            return Some(version);
         }
-        i += 1;
     }
-    true
+    None
 }
 
-// The number, among the tags, of the one that stands at a place, or how many there are.
-fn tag_at(file: &[u8], at: usize) -> u32
-    ensures { result ≡ place_in tags (part file.now at 5) }
-{
-    if stands(file, at, &FILE) {
-        return 0;
-    }
-    if stands(file, at, &V001) {
-        return 1;
-    }
-    if stands(file, at, &V002) {
-        return 2;
-    }
-    if stands(file, at, &V003) {
-        return 3;
-    }
-    if stands(file, at, &V011) {
-        return 4;
-    }
-    TAG_COUNT
-}
-
-// The version of the tag of this number; 0 where there is none.
-fn version_of(tag: u32) -> u32
-    ensures { result ≡ get_or versions tag 0 }
-{
-    if tag < TAG_COUNT {
-        VERSIONS[tag as usize]
-    } else {
-        0
-    }
-}
-
-pub(crate) fn header(cursor: Cursor, file: &[u8]) -> VersionRead
-    ensures { Leads cursor header file.now result.cursor result.version }
+#[tactic(auto, using(xcf_walk::proofs::Walks::steps), unfolding(crate::specs::Header::header))]
+pub(crate) fn header(cursor: &mut Cursor) -> Result<u32, Refusal>
+    ensures { Walks header cursor.old result cursor.new }
 {
     let start = cursor.at;
-    let first = cursor.skip(file, 9);
-    let second = first.check(stands(file, start, &MAGIC), refusal::NOT_XCF, start);
-    let at = second.at;
-    let third = second.skip(file, 5);
-    let tag = tag_at(file, at);
-    let next = third.check(tag < TAG_COUNT, refusal::BAD_VERSION, at);
-    VersionRead {
-        version: version_of(tag),
-        cursor: next,
-    }
+    let magic = cursor.bytes(9)?;
+    require(same(magic, &MAGIC), Reason::NotXcf, start)?;
+    let at = cursor.at;
+    let tag = cursor.bytes(5)?;
+    let Some(version) = version_of(tag) else {
+        return Err(Refusal {
+            reason: Reason::BadVersion,
+            place: at,
+        });
+    };
+    Ok(version)
 }

@@ -1,86 +1,67 @@
 // A drawable's hierarchy and its first level.
-ghost use Rattle.std.specs.Prelude.{◌≤◌, length};
+ghost use Rattle.std.specs.Prelude.{◌≤◌, length, IfOk};
 ghost use Rattle.xcf_numbers.specs.Limit.{side_limit};
-ghost use Rattle.xcf_store.specs.Pointer.{PointerSize};
-ghost use Rattle.xcf_walk.specs.Cursor.{Leads, Reads};
+ghost use Rattle.xcf_store.specs.Width.{bytes_of};
+ghost use Rattle.xcf_walk.specs.Cursor.{Walks};
 ghost use Rattle.xcf_parse.specs.Hierarchy.{agrees, pointer, rest, hierarchy};
 
 use xcf_grid::tile_count;
-use xcf_numbers::refusal;
-use xcf_walk::cursor::{Cursor, NumberRead};
-
-// The place of a drawable's first tile pointer.
-#[derive(Clone, Copy)]
-pub struct PlaceRead {
-    pub place: usize,
-    pub cursor: Cursor,
-}
+use xcf_numbers::reason::{Reason, Refusal};
+use xcf_store::pointer::Width;
+use xcf_walk::cursor::{Cursor, require};
 
 // A word that has to be v.
-fn agrees(cursor: Cursor, file: &[u8], v: u32) -> Cursor
-    ensures { Leads cursor (agrees v) file.now result tt }
+#[tactic(auto, using(xcf_walk::proofs::Walks::steps), unfolding(crate::specs::Hierarchy::agrees))]
+fn agrees(cursor: &mut Cursor, v: u32) -> Result<(), Refusal>
+    ensures { Walks (agrees v) cursor.old result cursor.new }
 {
-    let n = cursor.word(file);
-    n.cursor.check(n.value == v, refusal::DISAGREES, cursor.at)
+    let at = cursor.at;
+    let n = cursor.word()?;
+    require(n == v, Reason::Disagrees, at)
 }
 
 // A pointer that is not 0.
-pub(crate) fn pointer(cursor: Cursor, file: &[u8], size: usize) -> NumberRead
-    requires { PointerSize size }
-    ensures { Leads cursor (pointer size) file.now result.cursor result.value }
+#[tactic(auto, using(xcf_walk::proofs::Walks::steps), unfolding(crate::specs::Hierarchy::pointer))]
+pub(crate) fn pointer(cursor: &mut Cursor, width: Width) -> Result<usize, Refusal>
+    ensures { Walks (pointer (bytes_of width)) cursor.old result cursor.new }
 {
-    let p = cursor.pointer(file, size);
-    let next = p.cursor.check(p.value != 0, refusal::NO_POINTER, cursor.at);
-    NumberRead {
-        value: p.value,
-        cursor: next,
-    }
+    let at = cursor.at;
+    let p = cursor.pointer(width)?;
+    require(p != 0, Reason::NoPointer, at)?;
+    Ok(p)
 }
 
 // Further pointers up to a 0.
-fn rest(cursor: Cursor, file: &[u8], size: usize) -> Cursor
-    requires { PointerSize size }
-    ensures { Leads cursor (rest size) file.now result tt }
+fn rest(cursor: &mut Cursor, width: Width) -> Result<(), Refusal>
+    ensures { Walks (rest (bytes_of width)) cursor.old result cursor.new }
 {
-    let mut next = cursor;
-    let mut again = true;
-    while again {
-        let p = next.pointer(file, size);
-        next = p.cursor;
-        again = p.value != 0;
-    }
-    next
+    while cursor.pointer(width)? != 0 {}
+    Ok(())
 }
 
-// A hierarchy and its first level, for a drawable of these sides and this depth.
+// A hierarchy and its first level, for a drawable of these sides and this depth: the place of the first tile pointer.
+#[tactic(auto, using(xcf_walk::proofs::Walks::steps), unfolding(crate::specs::Hierarchy::hierarchy))]
 pub fn hierarchy(
-    cursor: Cursor,
-    file: &[u8],
-    size: usize,
+    cursor: &mut Cursor,
+    pointers: Width,
     width: u32,
     height: u32,
     depth: u32,
-) -> PlaceRead
-    requires { PointerSize size × (width ≤ side_limit) × (height ≤ side_limit) }
-    ensures reads { Reads cursor (hierarchy size width height depth) file.now 0 result.cursor result.place }
-    ensures place_in_bounds { result.place ≤ length file.now }
+) -> Result<usize, Refusal>
+    requires { (width ≤ side_limit) × (height ≤ side_limit) }
+    ensures walks { Walks (hierarchy (bytes_of pointers) width height depth) cursor.old result cursor.new }
+    ensures place_in_bounds { IfOk result (λ p. p ≤ length cursor.old.file.now) }
 {
-    let first = agrees(cursor, file, width);
-    let second = agrees(first, file, height);
-    let third = agrees(second, file, depth);
-    let level = pointer(third, file, size);
-    let fourth = rest(level.cursor, file, size);
-    let fifth = fourth.jump(level.value);
-    let sixth = agrees(fifth, file, width);
-    let seventh = agrees(sixth, file, height);
+    agrees(cursor, width)?;
+    agrees(cursor, height)?;
+    agrees(cursor, depth)?;
+    let level = pointer(cursor, pointers)?;
+    rest(cursor, pointers)?;
+    cursor.jump(level);
+    agrees(cursor, width)?;
+    agrees(cursor, height)?;
+    let place = cursor.at;
     let count = tile_count(width, height) as u32;
-    let place = seventh.place();
-    let end = seventh.tiles(file, size, count);
-    if end.number != 0 {
-        return PlaceRead {
-            place: 0,
-            cursor: end,
-        };
-    }
-    PlaceRead { place, cursor: end }
+    cursor.tiles(pointers, count)?;
+    Ok(place)
 }

@@ -1,20 +1,20 @@
 // What stands in a file before its pointers.
-ghost use Rattle.std.specs.Prelude.{◌≡◌, ◌≤◌, cond, eqb};
+ghost use Rattle.std.specs.Prelude.{◌≡◌, ◌≤◌, IfOk};
 ghost use Rattle.xcf_numbers.specs.Limit.{side_limit};
-ghost use Rattle.xcf_numbers.specs.Base;
-ghost use Rattle.xcf_walk.specs.Cursor.{Leads, Reads};
+ghost use Rattle.xcf_store.specs.Width.{bytes_of};
+ghost use Rattle.xcf_walk.specs.Cursor.{Walks};
 ghost use Rattle.xcf_parse.specs.Image.{pointer_size, base_ok, base_type, precision, head};
-ghost use Rattle.xcf_parse.specs.Parts.{file_start, no_head};
 
 use crate::drawable::side;
 use crate::header::header;
 use xcf_numbers::precision::EIGHT_BIT_GAMMA;
-use xcf_numbers::{base, refusal, version};
-use xcf_property::IMAGE_LIST;
-use xcf_store::pointer::{NARROW, WIDE};
-use xcf_walk::cursor::{Cursor, WordRead, start};
+use xcf_numbers::reason::{Reason, Refusal};
+use xcf_numbers::{base, version};
+use xcf_property::ListKind;
+use xcf_store::pointer::Width;
+use xcf_walk::cursor::{Cursor, require};
 
-// What stands before the pointers.
+// What stands before the pointers. The version and the base type are numbers, as what C is told has them.
 #[derive(Clone, Copy)]
 pub struct Head {
     pub version: u32,
@@ -24,102 +24,70 @@ pub struct Head {
     pub compression: u32,
 }
 
-#[derive(Clone, Copy)]
-pub struct HeadRead {
-    pub head: Head,
-    pub cursor: Cursor,
-}
-
-// The bytes of a pointer in a file of this version.
-pub fn pointer_size(version: u32) -> usize
-    ensures { result ≡ pointer_size version }
+// The width of pointers in a file of this version.
+pub fn pointer_width(version: u32) -> Width
+    ensures { bytes_of result ≡ pointer_size version }
 {
     if version == version::WIDE {
-        WIDE
+        Width::Wide
     } else {
-        NARROW
+        Width::Narrow
     }
 }
 
+#[tactic(auto, unfolding(crate::specs::Image::base_ok))]
 fn base_ok(version: u32, base: u32) -> bool
     ensures { result ≡ base_ok version base }
 {
-    if base::INDEXED < base {
-        return false;
-    }
     if version == version::FIRST {
-        return base != base::INDEXED;
+        base < base::INDEXED
+    } else {
+        base <= base::INDEXED
     }
-    true
 }
 
-fn base_type(cursor: Cursor, file: &[u8], version: u32) -> WordRead
-    ensures { Leads cursor (base_type version) file.now result.cursor result.value }
+#[tactic(auto, using(xcf_walk::proofs::Walks::steps), unfolding(crate::specs::Image::base_type))]
+fn base_type(cursor: &mut Cursor, version: u32) -> Result<u32, Refusal>
+    ensures { Walks (base_type version) cursor.old result cursor.new }
 {
-    let base = cursor.word(file);
-    let next = base
-        .cursor
-        .check(base_ok(version, base.value), refusal::BAD_BASE, cursor.at);
-    WordRead {
-        value: base.value,
-        cursor: next,
-    }
+    let at = cursor.at;
+    let base = cursor.word()?;
+    require(base_ok(version, base), Reason::BadBase, at)?;
+    Ok(base)
 }
 
 // The precision word, where the version has one.
-fn precision(cursor: Cursor, file: &[u8], version: u32) -> Cursor
-    ensures { Leads cursor (precision version) file.now result tt }
+#[tactic(auto, using(xcf_walk::proofs::Walks::steps), unfolding(crate::specs::Image::precision))]
+fn precision(cursor: &mut Cursor, version: u32) -> Result<(), Refusal>
+    ensures { Walks (precision version) cursor.old result cursor.new }
 {
     if version != version::WIDE {
-        return cursor;
+        return Ok(());
     }
-    let n = cursor.word(file);
-    n.cursor.check(
-        n.value == EIGHT_BIT_GAMMA,
-        refusal::BAD_PRECISION,
-        cursor.at,
-    )
+    let at = cursor.at;
+    let n = cursor.word()?;
+    require(n == EIGHT_BIT_GAMMA, Reason::BadPrecision, at)
 }
 
-// 1 for an indexed image.
-fn unmapped(base: u32) -> u32
-    ensures { result ≡ cond (eqb base Base.indexed) 1 0 }
+#[tactic(auto, using(xcf_walk::proofs::Walks::steps), unfolding(crate::specs::Image::head))]
+pub fn read_head(cursor: &mut Cursor) -> Result<Head, Refusal>
+    ensures walks { Walks head cursor.old result cursor.new }
+    ensures width_le_side_limit { IfOk result (λ h. (h.width ≤ side_limit) × (h.height ≤ side_limit)) }
 {
-    if base == base::INDEXED { 1 } else { 0 }
-}
-
-pub fn read_head(file: &[u8]) -> HeadRead
-    ensures reads { Reads file_start head file.now no_head result.cursor result.head }
-    ensures width_le_side_limit { (result.head.width ≤ side_limit) × (result.head.height ≤ side_limit) }
-{
-    let version = header(start(0), file);
-    let width = side(version.cursor, file);
-    let height = side(width.cursor, file);
-    let base = base_type(height.cursor, file, version.version);
-    let list = precision(base.cursor, file, version.version);
-    let size = pointer_size(version.version);
-    let p = list.properties(file, size, IMAGE_LIST, unmapped(base.value));
-    let next = p.cursor;
-    if next.number != 0 {
-        return HeadRead {
-            head: Head {
-                version: 0,
-                width: 0,
-                height: 0,
-                base: 0,
-                compression: 0,
-            },
-            cursor: next,
-        };
-    }
-    HeadRead {
-        head: Head {
-            version: version.version,
-            width: width.value,
-            height: height.value,
-            base: base.value,
-            compression: p.properties.compression,
-        },
-        cursor: next,
-    }
+    let version = header(cursor)?;
+    let width = side(cursor)?;
+    let height = side(cursor)?;
+    let base = base_type(cursor, version)?;
+    precision(cursor, version)?;
+    let pointer = pointer_width(version);
+    // The list of an indexed image must hold a colour map.
+    let unmapped = u32::from(base == base::INDEXED);
+    let p = cursor.properties(pointer.bytes(), ListKind::Image, unmapped)?;
+    Ok(Head {
+        version,
+        width,
+        height,
+        base,
+        compression: p.compression,
+    })
 }

@@ -8,8 +8,5 @@ ghost use Rattle.xcf_range.specs.Range.{within};
 pub fn outside(low: u32, high: u32, x: u32) -> bool
     ensures { result ≡ not (within low high x) }
 {
-    if x < low {
-        return true;
-    }
-    high < x
+    x < low || high < x
 }

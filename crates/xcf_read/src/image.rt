@@ -1,57 +1,52 @@
 // The image, and all that it points to.
-ghost use Rattle.std.specs.Prelude.{◌≡◌, ◌+◌, ◌≤◌, length, take};
-ghost use Rattle.xcf_numbers.specs.Limit.{file_limit, side_limit, layer_limit, table_rows, table_size};
-ghost use Rattle.xcf_walk.specs.Cursor.{Leads};
-ghost use Rattle.xcf_store.specs.Pointer.{PointerSize};
-ghost use Rattle.xcf_table.specs.Table.{rows_in};
+ghost use Rattle.std.specs.Prelude.{◌≡◌, ◌+◌, ◌≤◌, length, IfOk};
+ghost use Rattle.xcf_numbers.specs.Limit.{file_limit, side_limit, table_rows, table_size};
+ghost use Rattle.xcf_store.specs.Width.{bytes_of};
+ghost use Rattle.xcf_walk.specs.Cursor.{WalksBy};
+ghost use Rattle.xcf_table.specs.Table.{no_rows, rows_in};
 ghost use Rattle.xcf_read.specs.Image.{canvas_of, drawables, all_rows, image};
-ghost use Rattle.xcf_read.specs.Parts.{drawable, Filled, rows_most};
-ghost use Rattle.xcf_parse.specs.Parts.{file_start};
+ghost use Rattle.xcf_read.specs.Parts.{drawable, rows_most};
 
-use crate::drawable::{RowsRead, drawable};
-use xcf_numbers::kind;
-use xcf_numbers::limit::{CHANNEL_LIMIT, LAYER_LIMIT};
-use xcf_parse::image::{Head, pointer_size, read_head};
+use crate::drawable::{Kind, drawable};
+use xcf_numbers::reason::Refusal;
+use xcf_parse::image::{Head, pointer_width, read_head};
+use xcf_store::pointer::Width;
 use xcf_table::canvas::Canvas;
 use xcf_walk::cursor::Cursor;
+use xcf_walk::pointers::{CHANNELS, LAYERS};
 
+// What stands in the file before its pointers, and how many rows the table holds.
 #[derive(Clone, Copy)]
-pub struct ImageRead {
+pub struct Contents {
     pub head: Head,
     pub rows: u32,
-    pub cursor: Cursor,
 }
 
-// The drawables of the first n pointers of a list, behind the k rows of the table.
+// The drawables that a list leads to, behind the k rows of the table.
 fn drawables(
-    cursor: Cursor,
-    file: &[u8],
-    size: usize,
+    cursor: &mut Cursor,
+    width: Width,
     table: &mut [u32],
-    kind: u32,
+    kind: Kind,
     c: Canvas,
-    list: [usize; LAYER_LIMIT as usize],
-    n: u32,
+    list: &[usize],
     k: u32,
-) -> RowsRead
-    requires pointer_size { PointerSize size × (length file.now ≤ file_limit) × (c.width ≤ side_limit) × (c.height ≤ side_limit) }
-    requires n_le_layer_limit { (n ≤ layer_limit) × (k + rows_most kind n ≤ table_rows) × (length table.old ≡ table_size) }
-    ensures filled { Filled cursor (drawables (drawable size kind c) (take n list) (rows_in k table.old)) file.now table.old result.cursor result.rows table.new }
-    ensures rows_bound { result.rows ≤ k + rows_most kind n }
+) -> Result<u32, Refusal>
+    requires in_range { (length cursor.old.file.now ≤ file_limit) × (c.width ≤ side_limit) × (c.height ≤ side_limit) }
+    requires room { (k + rows_most kind (length list.now) ≤ table_rows) × (length table.old ≡ table_size) }
+    ensures walks { WalksBy (λ n. rows_in n table.new) (drawables (drawable (bytes_of width) kind c) list.now (rows_in k table.old)) cursor.old result cursor.new }
+    ensures size { length table.new ≡ length table.old }
+    ensures rows_bound { IfOk result (λ rows. rows ≤ k + rows_most kind (length list.now)) }
 {
-    let mut next = cursor;
     let mut rows = k;
-    let mut i: u32 = 0;
-    while i < n {
-        let there = next.jump(list[i as usize]);
-        let read = drawable(there, file, size, table, kind, c, rows);
-        next = read.cursor;
-        rows = read.rows;
-        i += 1;
+    for place in list {
+        cursor.jump(*place);
+        rows = drawable(cursor, width, table, kind, c, rows)?;
     }
-    RowsRead { rows, cursor: next }
+    Ok(rows)
 }
 
+#[tactic(auto, unfolding(crate::specs::Image::canvas_of))]
 fn canvas_of(h: Head) -> Canvas
     ensures { result ≡ canvas_of h }
 {
@@ -63,53 +58,30 @@ fn canvas_of(h: Head) -> Canvas
 }
 
 // The rows behind the head: they go into the table from its start.
-fn all_rows(cursor: Cursor, file: &[u8], size: usize, table: &mut [u32], c: Canvas) -> RowsRead
-    requires pointer_size { PointerSize size × (length file.now ≤ file_limit) × (c.width ≤ side_limit) × (c.height ≤ side_limit) }
+#[tactic(auto, using(xcf_walk::proofs::Walks::steps), unfolding(crate::specs::Image::all_rows))]
+fn all_rows(cursor: &mut Cursor, width: Width, table: &mut [u32], c: Canvas) -> Result<u32, Refusal>
+    requires in_range { (length cursor.old.file.now ≤ file_limit) × (c.width ≤ side_limit) × (c.height ≤ side_limit) }
     requires table_len { length table.old ≡ table_size }
-    ensures filled { Filled cursor (all_rows size c) file.now table.old result.cursor result.rows table.new }
-    ensures rows_le_table_rows { result.rows ≤ table_rows }
+    ensures walks { WalksBy (λ n. rows_in n table.new) (all_rows (bytes_of width) c) cursor.old result cursor.new }
+    ensures size { length table.new ≡ length table.old }
+    ensures rows_le_table_rows { IfOk result (λ rows. rows ≤ table_rows) }
 {
-    let layers = cursor.pointers(file, size, LAYER_LIMIT);
-    let channels = layers.cursor.pointers(file, size, CHANNEL_LIMIT);
-    let layer_list = layers.list;
-    let first = drawables(
-        channels.cursor,
-        file,
-        size,
-        table,
-        kind::LAYER,
-        c,
-        layer_list,
-        layers.count,
-        0,
-    );
-    let channel_list = channels.list;
-    drawables(
-        first.cursor,
-        file,
-        size,
-        table,
-        kind::CHANNEL,
-        c,
-        channel_list,
-        channels.count,
-        first.rows,
-    )
+    let layers = cursor.pointers::<LAYERS>(width)?;
+    let channels = cursor.pointers::<CHANNELS>(width)?;
+    let rows = drawables(cursor, width, table, Kind::Layer, c, &layers, 0)?;
+    drawables(cursor, width, table, Kind::Channel, c, &channels, rows)
 }
 
-pub(crate) fn image(file: &[u8], table: &mut [u32]) -> ImageRead
-    requires { (length file.now ≤ file_limit) × (length table.old ≡ table_size) }
-    ensures leads { Leads file_start image file.now result.cursor (record { head = result.head; rows = rows_in result.rows table.new }) }
-    ensures rows_le_table_rows { (result.rows ≤ table_rows) × (length table.new ≡ table_size) }
+// The image at the cursor, its rows in the table.
+#[tactic(auto, using(xcf_walk::proofs::Walks::steps), unfolding(crate::specs::Image::image, crate::specs::Image::canvas_of))]
+pub(crate) fn image(cursor: &mut Cursor, table: &mut [u32]) -> Result<Contents, Refusal>
+    requires { (length cursor.old.file.now ≤ file_limit) × (length table.old ≡ table_size) }
+    ensures walks { WalksBy (λ x. record { head = x.head; rows = rows_in x.rows table.new }) image cursor.old result cursor.new }
+    ensures rows_le_table_rows { IfOk result (λ x. x.rows ≤ table_rows) }
+    ensures table_len { length table.new ≡ table_size }
 {
-    let read = read_head(file);
-    let h = read.head;
-    let size = pointer_size(h.version);
-    let all = all_rows(read.cursor, file, size, table, canvas_of(h));
-    let next = all.cursor;
-    ImageRead {
-        head: h,
-        rows: all.rows,
-        cursor: next,
-    }
+    let head = read_head(cursor)?;
+    let width = pointer_width(head.version);
+    let rows = all_rows(cursor, width, table, canvas_of(head))?;
+    Ok(Contents { head, rows })
 }

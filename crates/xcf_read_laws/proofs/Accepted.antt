@@ -10,10 +10,10 @@ use native.Mathlib.Omega.{arith}
 use borrow.Author.Tests.{le-leb, leb-true, eq-eqb, eqb-true}
 use lib.Dec.{leb, eqb}
 use lib.ListN.{length}
+use Rattle.std.proofs.lemmas.Bool.{cond_both}
 use Rattle.xcf_numbers.specs.Limit.{file_limit, table_size}
 use Rattle.xcf_numbers.specs.Listed.{listed}
 use Rattle.xcf_walk.specs.Walk.{Outcome, got, refused, run}
-use Rattle.xcf_laws.proofs.Cases.{by_cases}
 use Rattle.xcf_read.specs.Image.{Image, image}
 use Rattle.xcf_read.specs.Answer.{Reading, reading_of, reading}
 use Rattle.xcf_read_laws.proofs.Numbers.{refusals_listed}
@@ -22,8 +22,8 @@ use Rattle.xcf_read_laws.proofs.Numbers.{refusals_listed}
 pub accepted_sized : (f lent : List ℕ) → (reading f lent).answer.number ≡ 0 → (length lent ≡ table_size) × (length f ≤ file_limit)
 unfolding reading
 accepted_sized f lent =
-    by_cases Says (eqb (length lent) table_size) _ _
-    (λ e. by_cases Says (leb (length f) file_limit) _ _ (λ l _. (eqb-true _ _ e, leb-true _ _ l)) (λ _ n. absurd (omega arith)))
+    cond_both (eqb (length lent) table_size) _ _ Says
+    (λ e. cond_both (leb (length f) file_limit) _ _ Says (λ l _. (eqb-true _ _ e, leb-true _ _ l)) (λ _ n. absurd (omega arith)))
     (λ _ n. absurd (omega arith))
   where
     Says : Reading → Type 0

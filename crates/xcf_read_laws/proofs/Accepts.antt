@@ -8,7 +8,7 @@ use borrow.Author.Tests.{le-leb, eq-eqb}
 use lib.ListN.{length}
 use Rattle.xcf_numbers.specs.Limit.{file_limit, table_size}
 use Rattle.xcf_store.specs.Pointer.{PointerSize}
-use Rattle.xcf_parse.proofs.Versions.{version_sized}
+use Rattle.xcf_read_laws.proofs.Versions.{version_sized}
 use Rattle.xcf_walk.specs.Walk.{got}
 use Rattle.xcf_table.proofs.Tables.{table_length, table_row}
 use Rattle.xcf_read.specs.Image.{Image, structure_byte}

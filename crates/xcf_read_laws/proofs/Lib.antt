@@ -8,3 +8,4 @@ pub mod AcceptedRows
 pub mod Accepts
 pub mod ReadDepends
 pub mod Widths
+mod Versions

@@ -17,7 +17,7 @@ use Rattle.xcf_walk.specs.Property.{payload, colour_map, content, property, prop
 use Rattle.xcf_walk.specs.Pointers.{pointers, tiles}
 use Rattle.xcf_property.specs.Property.{is_colour_map}
 use Rattle.xcf_store.proofs.Sizes.{some_bytes}
-use Rattle.xcf_parse.proofs.Versions.{version_sized}
+use Rattle.xcf_read_laws.proofs.Versions.{version_sized}
 use Rattle.xcf_walk.proofs.Advances.{advances_first, advances_number, advances_property_turn}
 use Rattle.xcf_walk.proofs.Straight.{straight_done, straight_bind, straight_number}
 use Rattle.xcf_walk_laws.proofs.Refusals.{Refuses, refuses_done, refuses_here, refuses_length, refuses_jump, refuses_must, refuses_bytes, refuses_bind, refuses_cond, refuses_loop}

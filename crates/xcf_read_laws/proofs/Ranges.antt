@@ -10,6 +10,7 @@ use native.Mathlib.Omega.{arith}
 use borrow.Author.Tests.{leb-true, eqb-true}
 use lib.Dec.{leb, eqb}
 use lib.ListN.{length, get_or}
+use Rattle.std.proofs.lemmas.Bool.{cond_both}
 use Rattle.xcf_numbers.specs.Limit.{side_limit}
 use Rattle.xcf_numbers.specs.PropertyType
 use Rattle.xcf_numbers.specs.Refusal
@@ -19,7 +20,6 @@ use Rattle.xcf_walk.specs.Walk.{here, must}
 use Rattle.xcf_walk.specs.Fields.{number, word}
 use Rattle.xcf_property.specs.Property.{image_list, layer_list, allowed, put}
 use Rattle.xcf_walk.specs.Property.{property, property_turn, properties}
-use Rattle.xcf_laws.proofs.Cases.{by_cases}
 use Rattle.xcf_range.proofs.Bounds.{within_bounds}
 use Rattle.xcf_parse.specs.declared.drawable.Layer.{Layer}
 use Rattle.xcf_parse.specs.declared.drawable.Owner.{Owner}
@@ -96,7 +96,7 @@ module _ {f : List ℕ} {S : ℕ → Type 0} where
       ensures_next (property size image_list) _ λ x. ensures_next (must _ Refusal.floating _) _ λ _. ensures_next (must _ Refusal.bad_content _) _ λ _.
       ensures_bind _ (ensures_must (allowed image_list x.kind x.content.first) Refusal.bad_content x.place) λ _ e.
       let kept = put_compression x.kind x.content p e h in
-      ensures_done (by_cases (InTurn _) (eqb x.kind PropertyType.end) _ _ (λ _. kept) (λ _. kept))
+      ensures_done (cond_both (eqb x.kind PropertyType.end) _ _ (InTurn _) (λ _. kept) (λ _. kept))
 
   ensures_compression : (size unmapped : ℕ) → Ensures f S (λ p. p.compression ≤ 1) (properties size image_list unmapped)
   unfolding properties

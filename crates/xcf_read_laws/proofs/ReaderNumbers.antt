@@ -8,11 +8,11 @@ use mathlib.Core.Bool.{true, cond, or-true}
 use lib.Dec.{leb, eqb}
 use lib.ListN.{length}
 use borrow.Author.Tests.{eq-eqb}
+use Rattle.std.proofs.lemmas.Bool.{cond_both}
 use Rattle.xcf_numbers.specs.Limit.{file_limit, table_size}
 use Rattle.xcf_numbers.specs.Refusal
 use Rattle.xcf_numbers.specs.Listed.{listed}
 use Rattle.xcf_walk.specs.Walk.{Outcome, got, refused, run}
-use Rattle.xcf_laws.proofs.Cases.{by_cases}
 use Rattle.xcf_read.specs.Image.{Image, image}
 use Rattle.xcf_read.specs.Answer.{refusal, refusals, verdict_numbers, reader_numbers, Reading, reading_of, reading}
 use Rattle.xcf_read_laws.proofs.Numbers.{refusals_listed}
@@ -37,7 +37,7 @@ verdict file table =
 file_listed : (file table : List ℕ) → Verdict (verdict file table)
 unfolding listed
 file_listed file table =
-    by_cases Verdict (leb (length file) file_limit) _ _
+    cond_both (leb (length file) file_limit) _ _ Verdict
     (λ _. walk_listed (run image file 0) (refusals_listed file)) (λ _. refl)
 
 pub verdict_listed : (file table : List ℕ) → length table ≡ table_size → listed verdict_numbers (reading file table).answer.number ≡ true
@@ -52,5 +52,5 @@ verdict_answered n e = rw (e, or-true)
 pub reader_listed : (file table : List ℕ) → listed reader_numbers (reading file table).answer.number ≡ true
 unfolding reading listed
 reader_listed file table =
-    by_cases Listed (eqb (length table) table_size) _ _
+    cond_both (eqb (length table) table_size) _ _ Listed
     (λ _. verdict_answered (verdict file table).answer.number (file_listed file table)) (λ _. refl)

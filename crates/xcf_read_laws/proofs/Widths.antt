@@ -10,13 +10,14 @@ use native.Mathlib.Omega.{arith}
 use borrow.Author.Tests.{le-leb, lt-leb, eq-eqb, ne_eqb, eqb-true, le-ltb, ltb-true}
 use lib.Dec.{leb, ltb, eqb}
 use lib.ListN.{length, get_or}
+use Rattle.std.proofs.lemmas.Bool.{cond_both}
 use Rattle.xcf_numbers.specs.Limit.{file_limit, table_size}
 use Rattle.xcf_numbers.specs.Listed.{listed}
 use Rattle.xcf_numbers.specs.Precision
 use Rattle.xcf_numbers.specs.PropertyType
 use Rattle.xcf_numbers.specs.Refusal
 use Rattle.xcf_numbers.specs.Version
-use Rattle.xcf_laws.proofs.Cases.{by_cases, cond_same}
+use Rattle.xcf_laws.proofs.Cases.{cond_same}
 use Rattle.xcf_store.specs.Pointer.{narrow, wide, number_at}
 use Rattle.xcf_property.specs.Property.{image_list, layer_list, is_colour_map, is_floating, length_ok}
 use Rattle.xcf_property.specs.declared.Properties.{Properties}
@@ -283,6 +284,6 @@ refusal_sized n table some = record {
 pub reading_sized : (file lent : List ℕ) → Sized (reading file lent)
 unfolding reading
 reading_sized file lent =
-    by_cases Sized (eqb (length lent) table_size) _ _
-    (λ _. by_cases Sized (leb (length file) file_limit) _ _ (λ _. walk_sized file _ refl) (λ _. refusal_sized Refusal.too_long lent (omega arith)))
+    cond_both (eqb (length lent) table_size) _ _ Sized
+    (λ _. cond_both (leb (length file) file_limit) _ _ Sized (λ _. walk_sized file _ refl) (λ _. refusal_sized Refusal.too_long lent (omega arith)))
     (λ _. refusal_sized Refusal.wrong_buffer lent (omega arith))

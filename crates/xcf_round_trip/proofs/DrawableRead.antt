@@ -10,6 +10,7 @@ use native.Mathlib.Omega.{arith}
 use borrow.Author.Tests.{ne_eqb, eq-eqb}
 use lib.Dec.{eqb}
 use lib.ListN.{length}
+use Rattle.std.proofs.lemmas.Bool.{cond_both}
 use Rattle.xcf_numbers.specs.Flag
 use Rattle.xcf_numbers.specs.Limit.{file_limit}
 use Rattle.xcf_numbers.specs.Kind
@@ -17,7 +18,6 @@ use Rattle.xcf_store.specs.Pointer.{narrow}
 use Rattle.xcf_store.specs.Word.{part}
 use Rattle.xcf_table.specs.declared.Row.{Row}
 use Rattle.xcf_table.specs.Table.{Rows, add_row}
-use Rattle.xcf_laws.proofs.Cases.{by_cases}
 use Rattle.xcf_table.specs.declared.canvas.Canvas.{Canvas}
 use Rattle.xcf_utf8.specs.Utf8.{well_formed}
 use Rattle.xcf_walk.specs.declared.cursor.Name.{Name}
@@ -133,7 +133,7 @@ module _ {f : List ℕ} {p : ℕ} (d : Drawable) (x : Readable d) (small : lengt
   mask_low : mask_at d p < 4294967296
   mask_low =
       let room = rw (drawable_length d p) at s.inside in
-      by_cases (λ (n : ℕ). n < 4294967296) d.has_mask _ _ (λ _. omega arith) (λ _. omega arith)
+      cond_both d.has_mask _ _ (λ (n : ℕ). n < 4294967296) (λ _. omega arith) (λ _. omega arith)
 
   reads_levels : (depth : ℕ) → d.row.depth ≡ depth
       → Gives (hierarchy 4 d.row.width d.row.height depth) f (hierarchy_at d p) (level_at d p + 8)

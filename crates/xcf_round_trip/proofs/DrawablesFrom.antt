@@ -13,9 +13,10 @@ use borrow.Author.Tests.{eqb-true, eqb-false, ne_eqb, lt-ltb, lt-leb}
 use lib.Dec.{eqb}
 use lib.ListN.{length, get_or, drop, length-append}
 use lib.Seq.{drop-drop}
+use Rattle.std.proofs.lemmas.Bool.{cond_both}
 use Rattle.xcf_numbers.specs.Limit.{layer_limit, channel_limit, row_size, table_rows, table_size}
 use Rattle.xcf_numbers.specs.Kind
-use Rattle.xcf_laws.proofs.Cases.{below_or, by_cases}
+use Rattle.xcf_laws.proofs.Cases.{below_or}
 use Rattle.xcf_store.specs.Word.{part}
 use Rattle.xcf_store.proofs.Parts.{part_length}
 use Rattle.xcf_table.specs.declared.Row.{Row}
@@ -73,7 +74,7 @@ module _ (table : List ℕ) where
   unfolding used_from
   used_ends zero k = λ h. absurd (omega arith)
   used_ends (suc n) k =
-      by_cases (λ m. m < suc n → (row_at table (k + m)).kind ≡ Kind.unused) (is_unused (row_at table k)) 0 (suc (used_from table n (k + 1)))
+      cond_both (is_unused (row_at table k)) 0 (suc (used_from table n (k + 1))) (λ m. m < suc n → (row_at table (k + m)).kind ≡ Kind.unused)
       (λ e _. rw add-zero (eqb-true _ _ e))
       (λ _ h.
       let next : k + suc (used_from table n (k + 1)) ≡ k + 1 + used_from table n (k + 1) = omega arith in

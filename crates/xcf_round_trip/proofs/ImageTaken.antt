@@ -9,11 +9,11 @@ use native.Mathlib.Omega.{arith}
 use borrow.Author.Tests.{eqb-true}
 use lib.Dec.{eqb}
 use lib.ListN.{length}
+use Rattle.std.proofs.lemmas.Bool.{cond_both}
 use Rattle.xcf_numbers.specs.Limit.{layer_limit, channel_limit, table_rows}
 use Rattle.xcf_walk.specs.Walk.{Walk, jump}
 use Rattle.xcf_walk_laws.proofs.Ensures.{Ensures, ensures_done, ensures_weaken, ensures_bind, ensures_next}
 use Rattle.xcf_table.specs.Table.{row_at, Rows, no_rows, add_row}
-use Rattle.xcf_laws.proofs.Cases.{by_cases}
 use Rattle.xcf_table.specs.declared.canvas.Canvas.{Canvas}
 use Rattle.xcf_parse.specs.declared.drawable.Layer.{Layer}
 use Rattle.xcf_parse.specs.Hierarchy.{hierarchy}
@@ -66,7 +66,7 @@ module _ (names table : List ℕ) (excepted : (k : ℕ) → k < table_rows → R
     unfolding mask_rows channel_rows mask_owner
     mask_rows_lem l rows x others few given t =
         let o = mask_owner x rows.count in
-        by_cases (Ensures f S (RowsTaken c names table (l + 1) 0)) (eqb x.mask 0) _ _
+        cond_both (eqb x.mask 0) _ _ (Ensures f S (RowsTaken c names table (l + 1) 0))
         (λ e. ensures_done (add_layer c names table excepted once rows x others few given (eqb-true _ _ e) t))
         (λ _. ensures_next (jump _) _ λ _. ensures_bind _ (channel_given size o refl) λ y below. ensures_next (jump _) _ λ _.
         ensures_next (hierarchy size o.width o.height 1) _ λ tiles.

@@ -7,6 +7,7 @@ use mathlib.Core.Bool.{Bool, true, false, cond}
 use native.Mathlib.Omega.{arith}
 use borrow.Author.Tests.{leb-true}
 use lib.Dec.{leb, eqb}
+use Rattle.std.proofs.lemmas.Bool.{cond_both}
 use Rattle.xcf_numbers.specs.Limit.{full_opacity}
 use Rattle.xcf_numbers.specs.PropertyType
 use Rattle.xcf_numbers.specs.Refusal
@@ -16,7 +17,6 @@ use Rattle.xcf_walk.specs.Walk.{must}
 use Rattle.xcf_property.specs.Property.{image_list, allowed, put}
 use Rattle.xcf_walk.specs.Property.{property, property_turn, properties}
 use Rattle.xcf_walk_laws.proofs.Ensures.{Ensures, ensures_done, ensures_must, ensures_bind, ensures_next, InTurn, ensures_loop}
-use Rattle.xcf_laws.proofs.Cases.{by_cases}
 
 module _ (list : ℕ) (drawn : eqb list image_list ≡ false) where
   put_opacity : (kind : ℕ) (c : Content) (p : Properties) → allowed list kind c.first ≡ true → p.opacity ≤ full_opacity
@@ -35,7 +35,7 @@ module _ (list : ℕ) (drawn : eqb list image_list ≡ false) where
         ensures_next (property size list) _ λ x. ensures_next (must _ Refusal.floating _) _ λ _. ensures_next (must _ Refusal.bad_content _) _ λ _.
         ensures_bind _ (ensures_must (allowed list x.kind x.content.first) Refusal.bad_content x.place) λ _ e.
         let kept = put_opacity x.kind x.content p e h in
-        ensures_done (by_cases (InTurn _) (eqb x.kind PropertyType.end) _ _ (λ _. kept) (λ _. kept))
+        ensures_done (cond_both (eqb x.kind PropertyType.end) _ _ (InTurn _) (λ _. kept) (λ _. kept))
 
     pub ensures_opacity : (size unmapped : ℕ) → Ensures f S (λ p. p.opacity ≤ full_opacity) (properties size list unmapped)
     unfolding properties

@@ -9,6 +9,7 @@ use native.Mathlib.Omega.{arith}
 use borrow.Author.Tests.{eqb-true, eqb-false, le-leb}
 use lib.Dec.{eqb}
 use lib.ListN.{length}
+use Rattle.std.proofs.lemmas.Bool.{cond_both}
 use Rattle.xcf_numbers.specs.Flag
 use Rattle.xcf_numbers.specs.Flag.{flag_set}
 use Rattle.xcf_numbers.specs.Limit.{full_opacity}
@@ -18,7 +19,7 @@ use Rattle.xcf_property.specs.declared.Properties.{Properties}
 use Rattle.xcf_store.specs.Word.{word_of, word_bytes, words, when}
 use Rattle.xcf_property.specs.Property.{image_list, length_ok, content_of, allowed, active_type, defaults, put}
 use Rattle.xcf_walk.specs.Property.{properties}
-use Rattle.xcf_laws.proofs.Cases.{cond_same, by_cases}
+use Rattle.xcf_laws.proofs.Cases.{cond_same}
 use Rattle.xcf_table.specs.declared.Row.{Row}
 use Rattle.xcf_usable.specs.Usable.{is_layer, apply}
 use Rattle.xcf_structure.specs.Structure.{Property, property_bytes, list_bytes, worded, drawable_properties}
@@ -75,14 +76,14 @@ when_taken false ys h ts = ts
 active_taken : (size list : ℕ) {xs : List Property} → AllTaken size list xs → AllTaken size list (worded (active_type list) [] ∷ xs)
 unfolding active_type length_ok
 active_taken size list {xs} ts =
-    by_cases (λ kind. AllTaken size list (worded kind [] ∷ xs)) (eqb list 1) 2 3
+    cond_both (eqb list 1) 2 3 (λ kind. AllTaken size list (worded kind [] ∷ xs))
     (λ _. goes refl (bare size list 2 (omega arith) refl) ts)
     (λ _. goes refl (bare size list 3 (omega arith) refl) ts)
 
 -- an entry that is left out is as one of type 0, which says nothing
 none_active : (list : ℕ) → eqb 0 (active_type list) ≡ false
 unfolding active_type
-none_active list = by_cases (λ kind. eqb 0 kind ≡ false) (eqb list 1) 2 3 (λ _. refl) (λ _. refl)
+none_active list = cond_both (eqb list 1) 2 3 (λ kind. eqb 0 kind ≡ false) (λ _. refl) (λ _. refl)
 
 put_none : (list : ℕ) (c : Content) (s : Properties) → put list 0 c s ≡ s
 unfolding put
@@ -115,7 +116,7 @@ cond_test false x y = refl
 
 cond_bit : (n : ℕ) → cond (eqb (n % 2) 1) 1 0 ≡ n % 2
 cond_bit n =
-    by_cases (λ v. v ≡ n % 2) (eqb (n % 2) 1) 1 0 (λ e. sym (eqb-true _ _ e)) (λ e. omega (arith, eqb-false (n % 2) 1 e))
+    cond_both (eqb (n % 2) 1) 1 0 (λ v. v ≡ n % 2) (λ e. sym (eqb-true _ _ e)) (λ e. omega (arith, eqb-false (n % 2) 1 e))
 
 bit_small : (n : ℕ) → n % 2 < 4294967296
 bit_small n = omega arith

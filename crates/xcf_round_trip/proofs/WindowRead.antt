@@ -11,11 +11,11 @@ use borrow.Author.Tests.{ltb-true}
 use lib.Dec.{ltb}
 use lib.ListN.{length, get_or, take, drop, take-append-drop}
 use lib.Seq.{take-take}
+use Rattle.std.proofs.lemmas.Bool.{cond_both}
 use Rattle.xcf_numbers.specs.Limit.{file_limit}
 use Rattle.xcf_store.specs.Word.{part, words}
 use Rattle.xcf_table.specs.declared.Row.{Row}
 use Rattle.xcf_tile.specs.Tile.{tile_of}
-use Rattle.xcf_laws.proofs.Cases.{by_cases}
 use Rattle.xcf_store.specs.Pointer.{narrow, number_at}
 use Rattle.xcf_window.specs.Window.{pointer_at, window_end, window_length, window}
 use Rattle.xcf_window.proofs.Cuts.{cut_same}
@@ -74,7 +74,7 @@ module _ {size : ℕ} {f : List ℕ} {r : Row} {xss : List (List ℕ)} {q : ℕ}
   before_end : pointer_at size f r t + length (get_or xss t []) ≤ window_end size f r t
   unfolding window_end
   before_end =
-      by_cases (λ (end : ℕ). pointer_at size f r t + length (get_or xss t []) ≤ end) (ltb (t + 1) r.count) _ _
+      cond_both (ltb (t + 1) r.count) _ _ (λ (end : ℕ). pointer_at size f r t + length (get_or xss t []) ≤ end)
       (λ more.
       let next : t + 1 < r.count = ltb-true (t + 1) r.count more in
       rw (s.pointers t below, s.pointers (t + 1) next, add-one t) (omega (arith, start_next xss q t (omega (arith, s.all)))))

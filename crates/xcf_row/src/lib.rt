@@ -15,18 +15,21 @@ use xcf_table::Row;
 use xcf_table::canvas::{Canvas, depth_of};
 use xcf_walk::cursor::Name;
 
+#[tactic(auto, unfolding(crate::specs::Row::flag))]
 fn flag(v: u32, bit: u32) -> u32
     ensures { (result ≡ flag v bit) × (result ≤ bit) }
 {
     if v == 0 { 0 } else { bit }
 }
 
+#[tactic(auto, unfolding(crate::specs::Row::name_flag))]
 fn name_flag(name: Name) -> u32
     ensures { (result ≡ name_flag name) × (result ≤ not_utf8) }
 {
     if name.utf8 { 0 } else { flag::NOT_UTF8 }
 }
 
+#[tactic(auto, unfolding(crate::specs::Row::layer_flags))]
 fn layer_flags(p: Properties, mask: usize, name: Name) -> u32
     ensures { result ≡ layer_flags p mask name }
 {
@@ -38,6 +41,7 @@ fn layer_flags(p: Properties, mask: usize, name: Name) -> u32
         + name_flag(name)
 }
 
+#[tactic(auto, unfolding(crate::specs::Row::channel_flags))]
 fn channel_flags(p: Properties, name: Name) -> u32
     ensures { result ≡ channel_flags p name }
 {
@@ -47,6 +51,7 @@ fn channel_flags(p: Properties, name: Name) -> u32
         + name_flag(name)
 }
 
+#[tactic(auto, unfolding(crate::specs::Row::layer_row))]
 pub fn layer_row(x: Layer, tiles: usize, k: u32) -> Row
     requires { (tiles ≤ file_limit) × LayerLow x file_limit }
     ensures { result ≡ layer_row x tiles k }
@@ -74,6 +79,7 @@ pub fn layer_row(x: Layer, tiles: usize, k: u32) -> Row
     }
 }
 
+#[tactic(auto, unfolding(crate::specs::Row::channel_row))]
 pub fn channel_row(o: Owner, x: Fields, tiles: usize) -> Row
     requires { (tiles ≤ file_limit) × (o.width ≤ side_limit) × (o.height ≤ side_limit) × FieldsLow x file_limit }
     ensures { result ≡ channel_row o x tiles }
@@ -100,6 +106,7 @@ pub fn channel_row(o: Owner, x: Fields, tiles: usize) -> Row
     }
 }
 
+#[tactic(auto, unfolding(crate::specs::Row::mask_owner))]
 pub fn mask_owner(x: Layer, k: u32) -> Owner
     ensures { result ≡ mask_owner x k }
 {
@@ -115,6 +122,7 @@ pub fn mask_owner(x: Layer, k: u32) -> Owner
     }
 }
 
+#[tactic(auto, unfolding(crate::specs::Row::channel_owner))]
 pub fn channel_owner(c: Canvas, k: u32) -> Owner
     ensures { result ≡ channel_owner c k }
 {

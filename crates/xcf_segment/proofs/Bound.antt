@@ -9,19 +9,19 @@ use native.Mathlib.Omega.{arith}
 use borrow.Author.Tests.{leb-false, le-leb}
 use lib.ListN.{length, get_or, take, drop, length-append, length-drop}
 use lib.Dec.{leb}
-use Rattle.xcf_laws.proofs.Cases.{by_cases}
+use Rattle.std.proofs.lemmas.Bool.{cond_both}
 use Rattle.xcf_segment.specs.Segment.{equal_bytes, copied_bytes, run_of, copy_of, segment_bytes, encode_stream}
 use Rattle.xcf_segment.proofs.Segments.{first, first_run, first_copy, copied_length, equal_inside, copied_inside, encode_nil, encode_cons, by_length}
 
 run_size : (count value : ℕ) → 3 ≤ count → length (segment_bytes (run_of count value)) < count
 unfolding segment_bytes
 run_size count value h =
-    by_cases (λ l. length (l ++ (value ∷ [])) < count) (leb count 127) _ _ (λ s. omega arith) (λ l. omega (arith, leb-false))
+    cond_both (leb count 127) _ _ (λ l. length (l ++ (value ∷ [])) < count) (λ s. omega arith) (λ l. omega (arith, leb-false))
 
 copy_size : (bytes : List ℕ) → length (segment_bytes (copy_of bytes)) ≤ length bytes + 1 + 2 * min 1 (length bytes / 128)
 unfolding segment_bytes
 copy_size bytes =
-    by_cases (λ l. length (l ++ bytes) ≤ length bytes + 1 + 2 * min 1 (length bytes / 128)) (leb (length bytes) 127) _ _
+    cond_both (leb (length bytes) 127) _ _ (λ l. length (l ++ bytes) ≤ length bytes + 1 + 2 * min 1 (length bytes / 128))
     (λ s. omega arith) (λ l. omega (arith, leb-false))
 
 -- a copy is followed by a run or the end
@@ -29,7 +29,7 @@ copied_then_run : (xs : List ℕ) → 0 < length (drop (copied_bytes xs) xs) →
 unfolding copied_bytes
 copied_then_run [] = λ h. absurd (omega arith)
 copied_then_run (x ∷ xs) =
-    by_cases (λ n. 0 < length (drop n (x ∷ xs)) → leb 3 (equal_bytes (drop n (x ∷ xs))) ≡ true) (leb 3 (equal_bytes (x ∷ xs))) _ _
+    cond_both (leb 3 (equal_bytes (x ∷ xs))) _ _ (λ n. 0 < length (drop n (x ∷ xs)) → leb 3 (equal_bytes (drop n (x ∷ xs))) ≡ true)
     (λ e _. e) (λ _. copied_then_run xs)
 
 module _ (xs : List ℕ) where

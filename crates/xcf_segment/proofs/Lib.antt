@@ -1,5 +1,6 @@
 pub mod Segments
 pub mod Scan
 pub mod SegmentBytes
-pub mod SegmentsLoop
+pub mod PiecesLoop
+pub mod SegmentsWithin
 pub mod Bound

@@ -3,33 +3,39 @@
 --     segments_nil, segments_cons, encode_nil, encode_cons    by: as much fuel as the stream is long is enough
 --     by_length      strong induction on a stream's length
 -- Assumes nothing.
-use mathlib.Core.Path.{◌≡◌, refl, ap}
+use mathlib.Core.Path.{◌≡◌, refl, ap, ◌∙◌}
 use mathlib.Core.List.{List, [], ◌∷◌, ◌++◌, flat_map}
 use mathlib.Core.Bool.{true, false}
 use Prim.Native.Nat.{ℕ, zero, suc, ◌≤◌, ◌<◌}
 use native.Mathlib.Omega.{arith}
-use borrow.Author.Tests.{leb-true}
+use borrow.Author.Tests.{eq-eqb, leb-true}
 use lib.ListN.{length, get_or, take, drop, length-take, length-drop}
 use lib.Dec.{leb, eqb}
-use Rattle.xcf_laws.proofs.Cases.{by_cases}
+use Rattle.std.proofs.lemmas.Bool.{cond_both}
 use Rattle.xcf_segment.specs.Segment.{leading, equal_bytes, copied_bytes, Segment, run_of, copy_of, size_of, first_segment, segments_within, segments, segment_bytes, encode_stream}
 
-leading_inside : (v : ℕ) (xs : List ℕ) → leading v xs ≤ length xs
+pub leading_inside : (v : ℕ) (xs : List ℕ) → leading v xs ≤ length xs
 unfolding leading
 leading_inside v [] = omega arith
 leading_inside v (x ∷ xs) =
-    by_cases (λ n. n ≤ suc (length xs)) (eqb x v) _ _ (λ _. omega (arith, leading_inside v xs)) (λ _. omega arith)
+    cond_both (eqb x v) _ _ (λ n. n ≤ suc (length xs)) (λ _. omega (arith, leading_inside v xs)) (λ _. omega arith)
 
 pub equal_inside : (xs : List ℕ) → equal_bytes xs ≤ length xs
 unfolding equal_bytes
 equal_inside [] = omega arith
 equal_inside (x ∷ xs) = omega (arith, leading_inside x xs)
 
+-- the equal bytes are those that equal the first
+equal_first : (xs : List ℕ) → 0 < length xs → leading (get_or xs 0 0) xs ≡ equal_bytes xs
+unfolding leading equal_bytes
+equal_first [] h = refl
+equal_first (x ∷ xs) h = rw (eq-eqb x x refl)
+
 pub copied_inside : (xs : List ℕ) → copied_bytes xs ≤ length xs
 unfolding copied_bytes
 copied_inside [] = omega arith
 copied_inside (x ∷ xs) =
-    by_cases (λ n. n ≤ suc (length xs)) (leb 3 (equal_bytes (x ∷ xs))) _ _ (λ _. omega arith) (λ _. omega (arith, copied_inside xs))
+    cond_both (leb 3 (equal_bytes (x ∷ xs))) _ _ (λ n. n ≤ suc (length xs)) (λ _. omega arith) (λ _. omega (arith, copied_inside xs))
 
 -- a copy has the bytes that it says
 pub copied_length : (xs : List ℕ) → length (take (copied_bytes xs) xs) ≡ copied_bytes xs
@@ -52,7 +58,7 @@ first_copy xs e = rw e
 -- the first segment: a run or a copy
 pub first : (P : Segment → Type 0) (xs : List ℕ) → (3 ≤ equal_bytes xs → P (run_of (equal_bytes xs) (get_or xs 0 0))) → (leb 3 (equal_bytes xs) ≡ false → P (copy_of (take (copied_bytes xs) xs))) → P (first_segment xs)
 unfolding first_segment
-first P xs f g = by_cases P (leb 3 (equal_bytes xs)) _ _ (λ e. f (leb-true _ _ e)) g
+first P xs f g = cond_both (leb 3 (equal_bytes xs)) _ _ P (λ e. f (leb-true _ _ e)) g
 
 pub first_some : (xs : List ℕ) → 0 < length xs → 0 < size_of (first_segment xs)
 first_some xs h =
@@ -90,6 +96,15 @@ segments_cons (x ∷ xs) h =
     let rest : List ℕ = drop (size_of (first_segment (x ∷ xs))) (x ∷ xs) in
     ap (λ (r : List Segment). first_segment (x ∷ xs) ∷ r)
     (within_same (length xs) (length rest) rest (omega (arith, rest_shorter (x ∷ xs) h)) (omega arith))
+
+-- the segments of a stream that begins with a run of n bytes v, and of one that begins with n bytes that are copied
+pub segments_run : (xs : List ℕ) (n v : ℕ) → 0 < length xs → leb 3 (equal_bytes xs) ≡ true → n ≡ leading v xs → v ≡ get_or xs 0 0 → segments xs ≡ run_of n v ∷ segments (drop n xs)
+segments_run xs n v some e m w =
+    let size : n ≡ equal_bytes xs = rw (m, w) (equal_first xs some) in
+    segments_cons xs some ∙ rw (first_run xs e, size, w) refl
+
+pub segments_copy : (xs : List ℕ) (n : ℕ) → 0 < length xs → leb 3 (equal_bytes xs) ≡ false → n ≡ copied_bytes xs → segments xs ≡ copy_of (take n xs) ∷ segments (drop n xs)
+segments_copy xs n some e m = segments_cons xs some ∙ rw (first_copy xs e, copied_length, m) refl
 
 pub encode_nil : encode_stream [] ≡ []
 unfolding encode_stream flat_map

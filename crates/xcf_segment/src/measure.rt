@@ -1,30 +1,27 @@
 // The length of a stream's encoding.
-ghost use Rattle.std.specs.Prelude.{◌≡◌, List, ℕ, ◌+◌, ◌≤◌, length};
+ghost use Rattle.std.specs.Prelude.{◌≡◌, ◌≤◌, length};
 ghost use Rattle.xcf_numbers.specs.Limit.{stream_limit};
-ghost use Rattle.xcf_segment.specs.Segment.{segment_bytes, encode_stream};
-ghost use Rattle.xcf_segment.specs.Parts.{head_size, segment_read};
+ghost use Rattle.xcf_segment.specs.Segment.{size_of, segment_bytes, encode_stream};
+ghost use Rattle.xcf_segment.specs.Parts.{head_size, segment_of};
 
-use crate::segment::{SegmentRead, segment_at};
+use crate::segment::{Segment, Segments};
 
 // The length of an opcode with its length bytes.
 fn head_size(count: usize) -> usize
     ensures { result ≡ head_size count }
 {
-    if count <= 127 {
-        return 1;
-    }
-    3
+    if count <= 127 { 1 } else { 3 }
 }
 
-// The length of a segment's operation, wherever in a stream the segment's bytes stand.
-fn segment_size(segment: SegmentRead) -> usize
-    requires { segment.count ≤ stream_limit }
-    ensures { (stream : List ℕ) (at : ℕ) → at + segment.count ≤ length stream → result ≡ length (segment_bytes (segment_read stream at segment)) }
+// The length of a segment's operation.
+fn segment_size(segment: Segment<'_>) -> usize
+    requires { size_of (segment_of segment) ≤ stream_limit }
+    ensures { result ≡ length (segment_bytes (segment_of segment.entry)) }
 {
-    if segment.run {
-        return head_size(segment.count) + 1;
+    match segment {
+        Segment::Run { count, .. } => head_size(count) + 1,
+        Segment::Copy(bytes) => head_size(bytes.len()) + bytes.len(),
     }
-    head_size(segment.count) + segment.count
 }
 
 // The length of the stream's encoding.
@@ -32,12 +29,9 @@ pub fn encoded_size(stream: &[u8]) -> usize
     requires { length stream.now ≤ stream_limit }
     ensures { result ≡ length (encode_stream stream.now) }
 {
-    let mut at = 0;
-    let mut size: usize = 0;
-    while at < stream.len() {
-        let segment = segment_at(stream, at);
+    let mut size = 0;
+    for segment in Segments::new(stream) {
         size += segment_size(segment);
-        at += segment.count;
     }
     size
 }

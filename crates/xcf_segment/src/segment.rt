@@ -1,78 +1,84 @@
 // The segments that a stream is written as.
-ghost use Rattle.std.specs.Prelude.{◌≡◌, ◌+◌, ◌≤◌, ◌<◌, length, drop, leb};
-ghost use Rattle.xcf_segment.specs.Segment.{equal_bytes, copied_bytes};
-ghost use Rattle.xcf_segment.specs.Parts.{SegmentAt};
+ghost use Rattle.std.specs.Prelude.{◌≡◌, ◌≤◌, length, leb};
+ghost use Rattle.std.specs.Iterator.{YieldsFirstBy, item_count};
+ghost use Rattle.xcf_segment.specs.Segment.{leading, equal_bytes, copied_bytes};
+ghost use Rattle.xcf_segment.specs.Parts.{segment_of, segments_left};
 
-// A segment of `count` bytes: a run of equal ones, or a copy.
+// A run of `count` bytes `value`, or bytes that are copied.
 #[derive(Clone, Copy)]
-pub struct SegmentRead {
-    pub run: bool,
-    pub count: usize,
+pub(crate) enum Segment<'a> {
+    Run { count: usize, value: u8 },
+    Copy(&'a [u8]),
 }
 
-// How many equal bytes start at `at`.
-fn equal_bytes(stream: &[u8], at: usize) -> usize
-    requires { at < length stream.now }
-    ensures { (result ≡ equal_bytes (drop at stream.now)) × (at + result ≤ length stream.now) }
+// How many bytes `value` the stream begins with.
+fn leading(stream: &[u8], value: u8) -> usize
+    ensures { result ≡ leading value stream.now }
 {
-    let value = stream[at];
-    let mut i = at + 1;
-    while i < stream.len() {
-        if stream[i] != value {
-            return i - at;
-        }
-        i += 1;
-    }
-    i - at
+    stream.iter().take_while(|b| **b == value).count()
 }
 
-// Whether three or more equal bytes start at `at`.
-fn three_equal(stream: &[u8], at: usize) -> bool
-    requires { at < length stream.now }
-    ensures { result ≡ leb 3 (equal_bytes (drop at stream.now)) }
+// Whether the stream begins with three equal bytes.
+fn three_equal(stream: &[u8]) -> bool
+    ensures { result ≡ leb 3 (equal_bytes stream.now) }
 {
-    if stream.len() - at < 3 {
-        return false;
+    match stream {
+        [a, b, c, ..] => a == b && b == c,
+        _ => false,
     }
-    let value = stream[at];
-    if stream[at + 1] != value {
-        return false;
-    }
-    stream[at + 2] == value
 }
 
-// How many bytes from `at` on come before the next three equal ones, or the end. Where the second and the third byte differ,
-// three equal ones start at neither of the first two.
-fn copied_bytes(stream: &[u8], at: usize) -> usize
-    requires { at ≤ length stream.now }
-    ensures { (result ≡ copied_bytes (drop at stream.now)) × (at + result ≤ length stream.now) }
+// How many bytes come before the next three equal ones, or the end. Where the second and the third byte differ, three equal ones
+// start at neither of the first two, so that the index goes on by two.
+fn copied_bytes(stream: &[u8]) -> usize
+    ensures value { result ≡ copied_bytes stream.now }
+    ensures inside { result ≤ length stream.now }
 {
-    let mut i = at;
+    let mut i = 0;
     while i + 2 < stream.len() {
         if stream[i + 1] != stream[i + 2] {
             i += 2;
         } else {
             if stream[i] == stream[i + 1] {
-                return i - at;
+                return i;
             }
             i += 1;
         }
     }
-    stream.len() - at
+    stream.len()
 }
 
-pub(crate) fn segment_at(stream: &[u8], at: usize) -> SegmentRead
-    requires { at < length stream.now }
-    ensures { SegmentAt stream.now at result }
-{
-    if three_equal(stream, at) {
-        return SegmentRead {
-            run: true,
-            count: equal_bytes(stream, at),
-        };
+// What is left of a stream, as segments.
+#[derive(Drop)]
+pub(crate) struct Segments<'a> {
+    rest: &'a [u8],
+}
+
+impl<'a> Segments<'a> {
+    pub(crate) fn new(stream: &'a [u8]) -> Segments<'a>
+        ensures { result.rest.now ≡ stream.now }
+    {
+        Segments { rest: stream }
     }
-    SegmentRead {
-        run: false,
-        count: copied_bytes(stream, at),
+}
+
+impl<'a> Iterator for Segments<'a> {
+    type Item = Segment<'a>;
+
+    ghost next_gives = { YieldsFirstBy segment_of segments_left };
+
+    ghost remaining = { item_count segments_left };
+
+    fn next(&mut self) -> Option<Segment<'a>> {
+        let value = *self.rest.first()?;
+        if three_equal(self.rest) {
+            let count = leading(self.rest, value);
+            let (_, rest) = self.rest.split_at(count);
+            self.rest = rest;
+            return Some(Segment::Run { count, value });
+        }
+        let (copied, rest) = self.rest.split_at(copied_bytes(self.rest));
+        self.rest = rest;
+        Some(Segment::Copy(copied))
     }
 }

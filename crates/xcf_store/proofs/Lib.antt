@@ -6,4 +6,3 @@ pub mod Risen
 pub mod Room
 pub mod Items
 pub mod Words
-pub mod SetsApart

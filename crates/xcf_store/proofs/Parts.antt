@@ -1,20 +1,16 @@
 -- The bytes of a part, the word that four of them spell, and the number that eight do.
 -- Assumes nothing.
-use Prim.Native.Nat.{ℕ, suc, ◌+◌, ◌-◌, ◌*◌, ◌≤◌, ◌<◌, min}
+use Prim.Native.Nat.{ℕ, suc, ◌+◌, ◌*◌, ◌≤◌, ◌<◌}
 use mathlib.Core.Path.{◌≡◌, refl}
 use mathlib.Core.List.{List, [], ◌∷◌, ◌++◌}
 use native.Mathlib.Nat.{add_assoc}
 use native.Mathlib.Omega.{arith}
-use lib.ListN.{length, drop, get_or, length-take, length-drop, get_or-eq_default}
+use lib.ListN.{length, drop, get_or, length-take, length-drop}
 use lib.Seq.{get_or-take, get_or-drop, drop-cons, drop-drop, take-add, ext_get_or}
 use Rattle.xcf_store.specs.Word.{part, big_endian}
 
 pub part_at : (f : List ℕ) (at n i : ℕ) → i < n → get_or (part f at n) i 0 ≡ get_or f (at + i) 0
 part_at f at n i h = rw (get_or-take, get_or-drop)
-
--- the last of n bytes, where it lies past the file's end or there is none
-pub part_last_none : (f : List ℕ) (at n : ℕ) → min n (length f - at) ≤ n - 1 → get_or (part f at n) (n - 1) 0 ≡ 0
-part_last_none f at n h = get_or-eq_default (part f at n) 0 (simp (length-take, length-drop) (omega arith))
 
 pub part_length : (f : List ℕ) (at n : ℕ) → at + n ≤ length f → length (part f at n) ≡ n
 part_length f at n h = simp (length-take, length-drop) (omega arith)

@@ -1,15 +1,15 @@
 -- The loops over rising pointers, by pairs and then one by one: `RisingLeft` holds at the first one's head (`going_start`), and what is
 -- left there at the second's. A pair that rises keeps it (`going_pair`), and so does a pointer that rises (`going_next`). Where the next
--- does not rise (`going_falls`, `going_beyond`) or none is left (`going_over`) it names the answer. The pointers that lie in the file are
+-- does not rise (`going_ends`) or none is left (`going_over`) it names the answer. The pointers that lie in the file are
 -- all that can rise (`rising_in`).
 -- Assumes nothing.
 use Prim.Native.Nat.{ℕ, zero, suc, ◌+◌, ◌-◌, ◌*◌, ◌≤◌, ◌<◌}
 use mathlib.Core.Path.{◌≡◌, refl, sym, ◌∙◌, ap}
 use mathlib.Core.List.{List}
-use mathlib.Core.Bool.{Bool, true, false, ◌&&◌}
+use mathlib.Core.Bool.{Bool, true, false, ◌&&◌, ◌||◌}
 use native.Mathlib.Nat.{add-zero, zero-add, sub-zero, mul-zero}
 use native.Mathlib.Omega.{arith}
-use borrow.Author.Tests.{le-leb, lt-leb, lt-ltb, le-ltb}
+use borrow.Author.Tests.{leb-true, le-leb, lt-leb, lt-ltb, le-ltb}
 use lib.Dec.{leb, ltb}
 use lib.ListN.{length}
 use Rattle.xcf_store.specs.Pointer.{number_at}
@@ -45,11 +45,18 @@ module _ {size : ℕ} {f : List ℕ} {at n i last : ℕ} (g : RisingLeft size f 
   stops : rising size f (at + size * i) (n - i) last ≡ record { count = 0; last = last } → record { count = i; last = last } ≡ rising size f at n 0
   stops e = sym (g.whole ∙ ap (in_front i) e ∙ rw add-zero)
 
-  pub going_falls : number_at size f (at + size * i) ≤ last → record { count = i; last = last } ≡ rising size f at n 0
+  going_falls : number_at size f (at + size * i) ≤ last → record { count = i; last = last } ≡ rising size f at n 0
   going_falls h = stops (none_rises size f _ _ last (rw (le-ltb _ _ h) (falls (leb (at + size * i + size) (length f)) (ltb (number_at size f (at + size * i)) (length f)))))
 
-  pub going_beyond : length f ≤ number_at size f (at + size * i) → record { count = i; last = last } ≡ rising size f at n 0
+  going_beyond : length f ≤ number_at size f (at + size * i) → record { count = i; last = last } ≡ rising size f at n 0
   going_beyond h = stops (none_rises size f _ _ last (rw (le-ltb _ _ h) (beyond (leb (at + size * i + size) (length f)) (ltb last (number_at size f (at + size * i))))))
+
+  pub going_ends : (leb (number_at size f (at + size * i)) last || leb (length f) (number_at size f (at + size * i))) ≡ true → record { count = i; last = last } ≡ rising size f at n 0
+  going_ends e = go (leb (number_at size f (at + size * i)) last) refl e
+    where
+      go : (t : Bool) → leb (number_at size f (at + size * i)) last ≡ t → (t || leb (length f) (number_at size f (at + size * i))) ≡ true → record { count = i; last = last } ≡ rising size f at n 0
+      go true is e = going_falls (leb-true _ _ is)
+      go false is e = going_beyond (leb-true _ _ e)
 
   pub going_over : n ≤ i → record { count = i; last = last } ≡ rising size f at n 0
   unfolding rising

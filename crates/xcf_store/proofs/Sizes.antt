@@ -1,15 +1,18 @@
 -- The size of a pointer: its test says what it is, and it is not 0, so that the pointers of a file are at most as many as its bytes.
 -- Where n numbers lie in a file, so does each of them (`one_of`).
 -- Assumes nothing.
-use Prim.Native.Nat.{ℕ, ◌+◌, ◌*◌, ◌/◌, ◌≤◌, ◌<◌}
+use Prim.Native.Nat.{ℕ, ◌+◌, ◌*◌, ◌≤◌, ◌<◌}
 use mathlib.Core.Path.{◌≡◌, refl}
 use mathlib.Core.Bool.{Bool, true, false, ◌||◌}
 use mathlib.Core.Logic.{inl, inr, ⊎_elim}
-use native.Mathlib.Nat.{div-add-mod, mod-lt, mul-le-mul_left}
+use native.Mathlib.Nat.{mul-le-mul_left}
 use native.Mathlib.Omega.{arith}
-use borrow.Author.Tests.{eqb-true}
+use borrow.Author.Tests.{eqb-true, ne_eqb}
 use lib.Dec.{eqb}
+use Rattle.xcf_store.specs.declared.pointer.Width.{Width}
+use Rattle.xcf_store.specs.declared.pointer.Width.TheVariants as Variant
 use Rattle.xcf_store.specs.Pointer.{narrow, wide, pointer_size_ok, PointerSize}
+use Rattle.xcf_store.specs.Width.{bytes_of}
 
 -- the test holds of the sizes, and of no other number
 pub size_of : {size : ℕ} → pointer_size_ok size ≡ true → PointerSize size
@@ -24,20 +27,19 @@ pub size_ok : {size : ℕ} → PointerSize size → pointer_size_ok size ≡ tru
 unfolding pointer_size_ok
 size_ok {size} = ⊎_elim (λ e. rw e) (λ e. rw e)
 
--- one that is not four is eight
-pub eight : {size : ℕ} → PointerSize size → (size ≡ narrow → ⊥) → size ≡ wide
-eight size h = ⊎_elim (λ e. absurd (h e)) (λ e. e) size
+-- the test of any other number fails
+pub no_size : {size : ℕ} → (size ≡ narrow → ⊥) → (size ≡ wide → ⊥) → pointer_size_ok size ≡ false
+unfolding pointer_size_ok
+no_size {size} n w = rw (ne_eqb size narrow n, ne_eqb size wide w)
+
+-- a width is such a size
+pub sized : (width : Width) → PointerSize (bytes_of width)
+sized Variant.Narrow = inl refl
+sized Variant.Wide = inr refl
 
 -- a size is four bytes at least, and eight at most
 pub some_bytes : {size : ℕ} → PointerSize size → (4 ≤ size) × (size ≤ 8)
 some_bytes = ⊎_elim (λ e. (omega (arith, e), omega (arith, e))) (λ e. (omega (arith, e), omega (arith, e)))
-
--- how many of `size` bytes go into n
-pub whole_ones : (n : ℕ) {size : ℕ} → PointerSize size → (size * (n / size) ≤ n) × (n < size * (n / size) + size)
-whole_ones n {size} e =
-    let parts = div-add-mod n size in
-    let rest = mod-lt n (let some : 1 ≤ size = omega (arith, (some_bytes e).0) in some) in
-    (omega (arith, parts), omega (arith, parts, rest))
 
 -- of n numbers from a place on that lie before an end, the one behind i others does
 pub one_of : (size at n i : ℕ) {end : ℕ} → (1 ≤ n → at + size * n ≤ end) → i < n → at + size * i + size ≤ end

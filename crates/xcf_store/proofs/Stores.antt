@@ -1,14 +1,13 @@
--- Bytes stored one after the other: what was stored in two goes, by single stores or by a copy is what `sets` stores, by
--- induction on the bytes. `Put` says it with the place behind the bytes, `PutWithin` with a bound on how many they are.
+-- Bytes stored one after the other: what was stored in two goes is what `sets` stores, by induction on the bytes. `Put` says it with
+-- the place behind the bytes, `PutWithin` with a bound on how many they are.
 -- Assumes nothing.
 use mathlib.Core.Path.{◌≡◌, refl, sym, ap, ◌∙◌}
-use mathlib.Core.List.{List, [], ◌∷◌, ◌++◌, append_assoc}
+use mathlib.Core.List.{List, [], ◌∷◌, ◌++◌, append_assoc, append-nil}
 use Prim.Native.Nat.{ℕ, suc, ◌+◌, ◌*◌, ◌≤◌}
 use native.Mathlib.Nat.{add-zero, zero-add, le_refl}
-use native.Mathlib.Numerals.{add-one, add-two}
 use native.Mathlib.Omega.{arith}
-use lib.ListN.{length, take, drop, set, length-append, length-take, length-drop, take-append-drop}
-use lib.Seq.{sets, sets-eq, length-sets, take-length, drop-drop, drop-append-le}
+use lib.ListN.{length, take, drop, set, length-append, length-take, length-drop, take-append-drop, drop_of_length-le}
+use lib.Seq.{sets, sets-eq, length-sets, take-take, drop-drop, drop-append-le}
 use Rattle.xcf_store.specs.Put.{Put, PutWithin}
 
 -- xs and then ys
@@ -16,10 +15,6 @@ pub sets_append : (l : List ℕ) (i : ℕ) (xs ys : List ℕ) → sets l i (xs +
 sets_append l i [] ys = rw add-zero
 sets_append l i (x ∷ xs) ys =
     sets_append (set l i x) (suc i) xs ys ∙ ap (λ (n : ℕ). sets (sets (set l i x) (suc i) xs) n ys) (omega arith)
-
--- a copy to the start is a run of stores
-pub copied : (l bs : List ℕ) → length bs ≤ length l → take (length bs) bs ++ drop (length bs) l ≡ sets l 0 bs
-copied l bs h = rw (take-length, sets-eq bs l 0 (omega arith), zero-add)
 
 -- what is left of a part behind its first n bytes, and what lies behind the part
 part_rest : (l : List ℕ) (a k n : ℕ) → a + k ≤ length l → n ≤ k → drop n (take k (drop a l)) ++ drop k (drop a l) ≡ drop (a + n) l
@@ -34,16 +29,6 @@ part_sets l a k bs h s =
     let rest = part_rest l a k (length bs) h s in
     rw (sets-eq bs (take k (drop a l)) 0 (omega arith), sets-eq bs l a (omega arith), zero-add)
     (ap (λ (r : List ℕ). take a l ++ r) (append_assoc bs _ _ ∙ ap (λ (r : List ℕ). bs ++ r) rest) ∙ sym (append_assoc (take a l) bs _))
-
--- one byte, two and three, as the code stores them
-pub put_one : (l : List ℕ) (to a : ℕ) → Put l to (a ∷ []) (to + 1) (set l to a)
-put_one l to a = record { behind = refl; output = refl }
-
-pub put_two : (l : List ℕ) (to a b : ℕ) → Put l to (a ∷ b ∷ []) (to + 2) (set (set l to a) (to + 1) b)
-put_two l to a b = record { behind = refl; output = rw add-one }
-
-pub put_three : (l : List ℕ) (to a b c : ℕ) → Put l to (a ∷ b ∷ c ∷ []) (to + 3) (set (set (set l to a) (to + 1) b) (to + 2) c)
-put_three l to a b c = record { behind = refl; output = rw (add-one, add-two) }
 
 -- nothing
 pub put_nothing : (l : List ℕ) (to : ℕ) → Put l to [] to l
@@ -77,6 +62,23 @@ put_part {l} {a} {k} {bs} p h s = record {
   behind = omega (arith, p.behind);
   output = rw p.output (part_sets l a k bs h s);
 }
+
+-- what is put in front of the place where a list is cut, and up to it, and what is put at the start behind it, are put one behind the other
+pub put_halves : {l : List ℕ} {n at : ℕ} {xs : List ℕ} {r : ℕ} {front ys : List ℕ} {r' : ℕ} {behind : List ℕ} → Put (take n l) at xs r front → r ≡ n
+    → n ≤ length l → Put (drop n l) 0 ys r' behind → n + length ys ≤ length l → Put l at (xs ++ ys) (n + r') (front ++ behind)
+put_halves {l} {n} {at} {xs} {r} {front} {ys} {r'} {behind} p e h q room =
+    let reaches : at + length xs ≡ n = sym p.behind ∙ e in
+    let long : length (take n l) ≡ n = rw length-take (omega arith) in
+    let rest = length-drop n l in
+    let whole : at + length (xs ++ ys) ≡ n + length ys = rw length-append (omega arith) in
+    let head : take at (take n l) ≡ take at l = take-take at n l (omega arith) in
+    let none : drop (at + length xs) (take n l) ≡ [] = drop_of_length-le (take n l) {i = at + length xs} (omega arith) in
+    record {
+      behind = omega (arith, q.behind, whole);
+      output =
+          rw (p.output, q.output, sets-eq xs (take n l) at (omega arith), sets-eq ys (drop n l) 0 (omega arith), head, none, append-nil, zero-add, drop-drop)
+          (rw (sets-eq (xs ++ ys) l at (omega arith), whole) (simp append_assoc));
+    }
 
 -- stores change no length
 pub put_length : {old : List ℕ} {to : ℕ} {bs : List ℕ} {r : ℕ} {new : List ℕ} → Put old to bs r new → length new ≡ length old

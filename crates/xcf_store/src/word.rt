@@ -2,18 +2,9 @@
 ghost use Rattle.std.specs.Prelude.{◌≡◌, ◌+◌, ◌≤◌, length};
 ghost use Rattle.xcf_store.specs.Word.{part, big_endian};
 
-pub fn wide(b: u8) -> u32
-    ensures { (result ≡ b) × (result ≤ 255) }
-{
-    b as u32
-}
-
 pub fn word_at(file: &[u8], at: usize) -> u32
     requires { at + 4 ≤ length file.now }
     ensures { result ≡ big_endian 0 (part file.now at 4) }
 {
-    wide(file[at]) * 16777216
-        + wide(file[at + 1]) * 65536
-        + wide(file[at + 2]) * 256
-        + wide(file[at + 3])
+    u32::from_be_bytes([file[at], file[at + 1], file[at + 2], file[at + 3]])
 }

@@ -1,3 +1,4 @@
+pub mod Faults
 pub mod Scattering
 pub mod StreamLaws
 pub mod StreamLoop

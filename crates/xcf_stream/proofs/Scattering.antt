@@ -2,30 +2,27 @@
 -- Assumes nothing.
 use mathlib.Core.Path.{◌≡◌, refl, ap, ◌∙◌}
 use mathlib.Core.List.{List, [], ◌∷◌, ◌++◌}
-use Prim.Native.Nat.{ℕ, zero, suc, ◌+◌, ◌*◌, ◌-◌, ◌≤◌, ◌<◌}
-use native.Mathlib.Nat.{mul-suc, mul-zero, add-zero, mul-add, not-suc-le-zero}
-use native.Mathlib.Numerals.{add-one, sub-one}
+use Prim.Native.Nat.{ℕ, suc, ◌+◌, ◌*◌, ◌-◌, ◌≤◌, ◌<◌}
+use native.Mathlib.Nat.{mul-suc, mul-zero, add-zero, mul-add}
+use native.Mathlib.Numerals.{add-one}
 use native.Mathlib.Omega.{arith}
-use lib.ListN.{length, replicate, take, drop, get_or, set, length-set}
+use lib.ListN.{length, replicate, drop, get_or, set, length-set}
 use lib.Seq.{drop-cons}
 use Rattle.xcf_stream.specs.Parts.{scatter}
 
 -- one turn less
-pub one_less : (s r : ℕ) → 0 < r → s * r ≡ s * (r - 1) + s
-one_less s zero h = absurd (not-suc-le-zero h)
-one_less s (suc r) h = rw (sub-one, mul-suc)
+pub one_less : (s n i : ℕ) → i < n → s * (n - i) ≡ s * (n - (i + 1)) + s
+one_less s n i h = let e : n - i ≡ suc (n - (i + 1)) = omega arith in rw (e, mul-suc)
 
-pub scatter_value : (buf : List ℕ) (at step r v : ℕ) → 0 < r → scatter (set buf at v) (at + step) step (replicate (r - 1) v) ≡ scatter buf at step (replicate r v)
-scatter_value buf at step zero v h = absurd (not-suc-le-zero h)
-scatter_value buf at step (suc r) v h = rw sub-one
+pub scatter_value : (buf : List ℕ) (at step n i v : ℕ) → i < n → scatter (set buf at v) (at + step) step (replicate (n - (i + 1)) v) ≡ scatter buf at step (replicate (n - i) v)
+scatter_value buf at step n i v h = let e : n - i ≡ suc (n - (i + 1)) = omega arith in rw e
 
 pub scatter_length : (buf : List ℕ) (at step : ℕ) (bs : List ℕ) → length (scatter buf at step bs) ≡ length buf
 scatter_length buf at step [] = refl
 scatter_length buf at step (b ∷ bs) = scatter_length (set buf at b) (at + step) step bs ∙ length-set buf at b
 
-pub scatter_copied : (buf : List ℕ) (at step : ℕ) (ws : List ℕ) (i r : ℕ) → 0 < r → i < length ws → scatter (set buf at (get_or ws i 0)) (at + step) step (take (r - 1) (drop (i + 1) ws)) ≡ scatter buf at step (take r (drop i ws))
-scatter_copied buf at step ws i zero h l = absurd (not-suc-le-zero h)
-scatter_copied buf at step ws i (suc r) h l = rw (sub-one, add-one, drop-cons ws i 0)
+pub scatter_copied : (buf : List ℕ) (at step : ℕ) (bs : List ℕ) (i : ℕ) → i < length bs → scatter (set buf at (get_or bs i 0)) (at + step) step (drop (i + 1) bs) ≡ scatter buf at step (drop i bs)
+scatter_copied buf at step bs i h = rw (add-one, drop-cons bs i 0 h)
 
 -- xs, then ys
 pub scatter_append : (buf : List ℕ) (at step : ℕ) (xs ys : List ℕ) → scatter buf at step (xs ++ ys) ≡ scatter (scatter buf at step xs) (at + step * length xs) step ys

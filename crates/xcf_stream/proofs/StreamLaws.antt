@@ -10,10 +10,10 @@ use native.Mathlib.Omega.{arith}
 use borrow.Author.Tests.{ltb-false, le-leb, lt-ltb}
 use lib.ListN.{length, get_or, drop, length-replicate, length-take}
 use lib.Dec.{ltb, leb, eqb}
+use Rattle.std.proofs.lemmas.Bool.{cond_both}
 use Rattle.xcf_numbers.specs.Mark
 use Rattle.xcf_operation.specs.Operation.{Head, run_head, copy_head, cut, head_at, head_of, Operation, gives, short, over, unless_fails, operation_at, operation_of}
 use Rattle.xcf_stream.specs.Stream.{Stream, ends, adds, stream_from, stream_within, stream_at}
-use Rattle.xcf_laws.proofs.Cases.{by_cases}
 
 -- a head's data starts after the opcode
 abbrev After : ℕ → Head → Type 0
@@ -24,11 +24,11 @@ After at (copy_head count body) = at < body
 head_after : (ws : List ℕ) (at : ℕ) → After at (head_at ws at)
 unfolding head_at head_of
 head_after ws at =
-    by_cases (After at) (leb (length ws) at) _ _ (λ _. tt)
-    (λ _. by_cases (After at) (ltb (get_or ws at 0) 127) _ _ (λ _. omega arith)
-    (λ _. by_cases (After at) (ltb 128 (get_or ws at 0)) _ _ (λ _. omega arith)
-    (λ _. by_cases (After at) (ltb (length ws) (at + 3)) _ _ (λ _. tt)
-    (λ _. by_cases (After at) (eqb (get_or ws at 0) 127) _ _ (λ _. omega arith) (λ _. omega arith)))))
+    cond_both (leb (length ws) at) _ _ (After at) (λ _. tt)
+    (λ _. cond_both (ltb (get_or ws at 0) 127) _ _ (After at) (λ _. omega arith)
+    (λ _. cond_both (ltb 128 (get_or ws at 0)) _ _ (After at) (λ _. omega arith)
+    (λ _. cond_both (ltb (length ws) (at + 3)) _ _ (After at) (λ _. tt)
+    (λ _. cond_both (eqb (get_or ws at 0) 127) _ _ (After at) (λ _. omega arith) (λ _. omega arith)))))
 
 -- an operation gives no more than is left, ends after its start, and lies in the window
 abbrev pub Sound : List ℕ → ℕ → ℕ → Operation → Type 0
@@ -38,8 +38,8 @@ Sound ws at left (gives bs next) = (length bs ≤ left) × ((at < next) × (next
 
 unless_sound : (ws : List ℕ) (at left count body size : ℕ) (bs : List ℕ) → at < body + size → length bs ≤ count → Sound ws at left (unless_fails ws left count body size (gives bs (body + size)))
 unless_sound ws at left count body size bs a b =
-    by_cases (Sound ws at left) (ltb left count) _ _ (λ _. tt)
-    (λ o. by_cases (Sound ws at left) (ltb (length ws) (body + size)) _ _ (λ _. tt)
+    cond_both (ltb left count) _ _ (Sound ws at left) (λ _. tt)
+    (λ o. cond_both (ltb (length ws) (body + size)) _ _ (Sound ws at left) (λ _. tt)
     (λ d. omega (arith, ltb-false)))
 
 sound_of : (ws : List ℕ) (at left : ℕ) (h : Head) → After at h → Sound ws at left (operation_of ws left h)

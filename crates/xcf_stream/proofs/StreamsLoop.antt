@@ -3,12 +3,16 @@
 -- Assumes nothing.
 use mathlib.Core.Path.{◌≡◌, refl, sym, ap, ◌∙◌}
 use mathlib.Core.List.{List}
+use mathlib.Core.Bool.{true, false}
 use Prim.Native.Nat.{ℕ, zero, suc, ◌+◌, ◌-◌, ◌≤◌, ◌<◌}
 use native.Mathlib.Nat.{not-suc-le-zero}
 use native.Mathlib.Numerals.{sub-one}
 use native.Mathlib.Omega.{arith}
-use borrow.Author.Tests.{eq-eqb, ne_eqb}
+use borrow.Author.Tests.{eq-eqb}
 use lib.ListN.{length}
+use Rattle.std.proofs.Common.{None}
+use Rattle.std.specs.Option.{is_some}
+use Rattle.xcf_stream.proofs.Faults.{marked, unmarked}
 use Rattle.xcf_stream.specs.Stream.{stream_at}
 use Rattle.xcf_stream.specs.Streams.{Streams, in_front, streams_at}
 use Rattle.xcf_stream.specs.declared.StreamEnd.{StreamEnd}
@@ -51,10 +55,10 @@ next ws n depth k at h =
     ∙ ap (λ (m : ℕ). in_front (stream_at ws at n) (streams_at m ws (stream_at ws at n).at n)) (omega arith)
 
 module _ {ws : List ℕ} {n depth : ℕ} {start pixels : List ℕ} {k pos count : ℕ} (g : StreamsGoing ws n depth start pixels k pos count) (h : k < depth) (r : StreamEnd) (pixels' : List ℕ) (e : Streamed ws pos n depth k pixels r pixels') where
-  pub going_on : r.mark ≡ 0 → StreamsGoing ws n depth start pixels' (k + 1) r.at (count + r.operations)
+  pub going_on : is_some r.fault ≡ false → StreamsGoing ws n depth start pixels' (k + 1) r.at (count + r.operations)
   unfolding scatter_all
   going_on z =
-      let q = rw e.mark at z in
+      let q = rw e.mark at (unmarked r.fault z) in
       let f = simp (eq-eqb _ _ q) at (next ws n depth k pos h) in
       record {
         same = rw (e.bytes, scatter_length) g.same;
@@ -67,10 +71,10 @@ module _ {ws : List ℕ} {n depth : ℕ} {start pixels : List ℕ} {k pos count 
         put = rw (e.at, e.bytes) (sym (ap (λ (s : Streams). scatter_all pixels k depth s.planes) f) ∙ g.put);
       }
 
-  pub going_off : (r.mark ≡ 0 → ⊥) → StreamedAll ws n depth start (record { mark = r.mark; at = r.at; operations = count + r.operations }) pixels'
+  pub going_off : is_some r.fault ≡ true → StreamedAll ws n depth start (record { fault = r.fault; at = r.at; operations = count + r.operations }) pixels'
   unfolding scatter_all
   going_off z =
-      let f = simp (ne_eqb _ _ (rw e.mark at z)) at (next ws n depth k pos h) in
+      let f = simp (rw e.mark at (marked r.fault z)) at (next ws n depth k pos h) in
       record {
         mark = e.mark ∙ sym (ap (λ (s : Streams). s.mark) f) ∙ g.mark;
         at = e.at ∙ sym (ap (λ (s : Streams). s.at) f) ∙ g.at;
@@ -78,7 +82,7 @@ module _ {ws : List ℕ} {n depth : ℕ} {start pixels : List ℕ} {k pos count 
         bytes = e.bytes ∙ sym (ap (λ (s : Streams). scatter_all pixels k depth s.planes) f) ∙ g.put;
       }
 
-pub all_done : {ws : List ℕ} {n depth : ℕ} {start pixels : List ℕ} {pos count : ℕ} → StreamsGoing ws n depth start pixels depth pos count → StreamedAll ws n depth start (record { mark = 0; at = pos; operations = count }) pixels
+pub all_done : {ws : List ℕ} {n depth : ℕ} {start pixels : List ℕ} {pos count : ℕ} → StreamsGoing ws n depth start pixels depth pos count → StreamedAll ws n depth start (record { fault = None; at = pos; operations = count }) pixels
 unfolding scatter_all streams_at
 all_done {ws} {n} {depth} {start} {pixels} {pos} {count} g =
     let z : depth - depth ≡ 0 = omega arith in

@@ -1,12 +1,10 @@
 -- The contracts of streams and of bytes put apart, by name.
 use Rattle.std.specs.Prelude.{◌≡◌, List, [], ◌∷◌, ℕ, ◌+◌, ◌*◌, ◌≤◌, ◌<◌, length, set}
+use Rattle.xcf_numbers.specs.Fault.{mark_of_any}
 use Rattle.xcf_numbers.specs.Limit.{word_limit}
 use Rattle.xcf_stream.specs.declared.StreamEnd.{StreamEnd}
 use Rattle.xcf_stream.specs.Stream.{stream_at}
 use Rattle.xcf_stream.specs.Streams.{streams_at}
-
-abbrev pub ended_at : ℕ → ℕ → ℕ → StreamEnd
-ended_at mark at operations = record { mark = mark; at = at; operations = operations }
 
 -- bs put into the buffer at `at` and every `step` places after it
 abbrev pub scatter : List ℕ → ℕ → ℕ → List ℕ → List ℕ
@@ -32,7 +30,7 @@ pub record Plane (ws : List ℕ) (from n depth k : ℕ) (pixels : List ℕ) : Ty
 
 -- how the stream there ended, with its bytes put into the pixels
 pub record Streamed (ws : List ℕ) (from n depth k : ℕ) (old : List ℕ) (r : StreamEnd) (new : List ℕ) : Type 0 where
-  pub mark : r.mark ≡ (stream_at ws from n).mark
+  pub mark : mark_of_any r.fault ≡ (stream_at ws from n).mark
   pub at : r.at ≡ (stream_at ws from n).at
   pub operations : r.operations ≡ (stream_at ws from n).operations
   pub bytes : new ≡ scatter old k depth (stream_at ws from n).bytes
@@ -41,7 +39,7 @@ pub record Streamed (ws : List ℕ) (from n depth k : ℕ) (old : List ℕ) (r :
 
 -- all streams of a tile
 pub record StreamedAll (ws : List ℕ) (n depth : ℕ) (old : List ℕ) (r : StreamEnd) (new : List ℕ) : Type 0 where
-  pub mark : r.mark ≡ (streams_at depth ws 0 n).mark
+  pub mark : mark_of_any r.fault ≡ (streams_at depth ws 0 n).mark
   pub at : r.at ≡ (streams_at depth ws 0 n).at
   pub operations : r.operations ≡ (streams_at depth ws 0 n).operations
   pub bytes : new ≡ scatter_all old 0 depth (streams_at depth ws 0 n).planes

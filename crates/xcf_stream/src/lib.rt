@@ -1,30 +1,34 @@
 // The streams of an encoded tile, decoded into its pixels.
 #![tactic(auto)]
 
-pub mod scatter;
+mod scatter;
 
 ghost use Rattle.std.specs.Prelude.{◌≡◌};
-ghost use Rattle.xcf_stream.specs.Parts.{ended_at, Plane, Streamed, StreamedAll, Sized};
+ghost use Rattle.xcf_numbers.specs.Fault.{mark_of_any};
+ghost use Rattle.xcf_stream.specs.Parts.{Plane, Streamed, StreamedAll, Sized};
 
-use crate::scatter::put_given;
-use xcf_numbers::mark;
-use xcf_operation::{OperationRead, operation_at};
+use crate::scatter::put;
+use xcf_numbers::fault::Fault;
+use xcf_operation::operation_at;
 
-// Mark 0 and the place behind, or the mark and place of the operation that fails; and the operations carried out in full.
-#[derive(Drop)]
+// The place behind, or that of the operation that fails, with its fault; and the operations carried out in full. Place and count
+// stand beside a fault too, so this is no Result.
+#[derive(Clone, Copy)]
 pub struct StreamEnd {
-    pub mark: u64,
+    pub fault: Option<Fault>,
     pub at: usize,
     pub operations: usize,
 }
 
-pub fn ended(mark: u64, at: usize, operations: usize) -> StreamEnd
-    ensures { result ≡ ended_at mark at operations }
-{
-    StreamEnd {
-        mark,
-        at,
-        operations,
+impl StreamEnd {
+    // The mark of what ended so, 0 where nothing failed.
+    pub fn mark(&self) -> u8
+        ensures { result ≡ mark_of_any self.now.fault }
+    {
+        match self.fault {
+            None => 0,
+            Some(fault) => fault as u8,
+        }
     }
 }
 
@@ -46,22 +50,26 @@ fn stream(
     let mut operations: usize = 0;
     while 0 < left {
         match operation_at(window, at, left) {
-            OperationRead::Short => return ended(mark::SHORT, at, operations),
-            OperationRead::Over => return ended(mark::OVERRUN, at, operations),
-            OperationRead::Given {
-                run,
-                from,
-                count,
-                next,
-            } => {
-                to = put_given(window, run, from, pixels, to, depth, count);
-                at = next;
-                left -= count;
+            Err(fault) => {
+                return StreamEnd {
+                    fault: Some(fault),
+                    at,
+                    operations,
+                };
+            }
+            Ok(operation) => {
+                to = put(operation.bytes, pixels, to, depth);
+                left -= operation.bytes.len();
+                at = operation.next;
                 operations += 1;
             }
         }
     }
-    ended(mark::GOOD, at, operations)
+    StreamEnd {
+        fault: None,
+        at,
+        operations,
+    }
 }
 
 // A stream of n bytes for each byte of the pixel.
@@ -69,17 +77,23 @@ pub fn streams(window: &[u8], n: usize, depth: usize, pixels: &mut [u8]) -> Stre
     requires { Sized n depth pixels.old }
     ensures { StreamedAll window.now n depth pixels.old result pixels.new }
 {
-    let mut k = 0;
     let mut at = 0;
     let mut operations: usize = 0;
-    while k < depth {
-        let s = stream(window, at, n, depth, k, pixels);
-        at = s.at;
-        operations += s.operations;
-        if s.mark != 0 {
-            return ended(s.mark, at, operations);
+    for k in 0..depth {
+        let end = stream(window, at, n, depth, k, pixels);
+        at = end.at;
+        operations += end.operations;
+        if end.fault.is_some() {
+            return StreamEnd {
+                fault: end.fault,
+                at,
+                operations,
+            };
         }
-        k += 1;
     }
-    ended(mark::GOOD, at, operations)
+    StreamEnd {
+        fault: None,
+        at,
+        operations,
+    }
 }

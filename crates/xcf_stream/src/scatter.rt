@@ -1,119 +1,73 @@
-// Bytes put into a pixel buffer at every `step`-th place.
-ghost use Rattle.std.specs.Prelude.{◌≡◌, ◌+◌, ◌*◌, ◌≤◌, length, replicate, take, drop};
-ghost use Rattle.xcf_operation.specs.Parts.{data_size, given};
+// Bytes put into a pixel buffer at every `step`-th place. The loops keep the place: the library says nothing of what a slice holds
+// after a loop over `iter_mut().step_by(step)`.
+ghost use Rattle.std.specs.Prelude.{◌≡◌, ◌+◌, ◌*◌, length, replicate};
+ghost use Rattle.xcf_operation.specs.Parts.{given};
 ghost use Rattle.xcf_stream.specs.Parts.{scatter, StepRoom};
 
+use xcf_operation::Bytes;
+
 // `value`, `count` times, at `at` and every `step` bytes after it.
-fn fill(pixels: &mut [u8], at: usize, step: usize, count: usize, value: u8) -> usize
+fn fill(value: u8, count: usize, pixels: &mut [u8], at: usize, step: usize) -> usize
     requires { StepRoom pixels.old at step count }
     ensures { (result ≡ at + step * count) × (pixels.new ≡ scatter pixels.old at step (replicate count value)) }
 {
     let mut to = at;
-    let mut rest = count;
-    while 0 < rest {
+    for _ in 0..count {
         pixels[to] = value;
         to += step;
-        rest -= 1;
     }
     to
 }
 
-// `count` bytes of the window from `from` on, at `at` and every `step` bytes after it.
-fn copy(
-    window: &[u8],
-    from: usize,
-    pixels: &mut [u8],
-    at: usize,
-    step: usize,
-    count: usize,
-) -> usize
-    requires { (from + count ≤ length window.now) × StepRoom pixels.old at step count }
-    ensures { (result ≡ at + step * count) × (pixels.new ≡ scatter pixels.old at step (take count (drop from window.now))) }
+// The bytes, at `at` and every `step` bytes after it.
+fn copy(bytes: &[u8], pixels: &mut [u8], at: usize, step: usize) -> usize
+    requires { StepRoom pixels.old at step (length bytes.now) }
+    ensures { (result ≡ at + step * length bytes.now) × (pixels.new ≡ scatter pixels.old at step bytes.now) }
 {
     let mut to = at;
-    let mut i = from;
-    let mut rest = count;
-    while 0 < rest {
-        pixels[to] = window[i];
+    for byte in bytes {
+        pixels[to] = *byte;
         to += step;
-        i += 1;
-        rest -= 1;
     }
     to
 }
 
-// `fill`, with a loop of its own for each depth of a pixel: the compiler makes a block fill of the first, and unrolls the others.
-fn put_run(pixels: &mut [u8], at: usize, step: usize, count: usize, value: u8) -> usize
+// `fill`, with a loop of its own for each depth of a pixel: the compiler makes a block fill of the first, and unrolls the others. (One
+// match on the step for runs and copies together takes more instructions where operations are short.)
+fn put_run(value: u8, count: usize, pixels: &mut [u8], at: usize, step: usize) -> usize
     requires { StepRoom pixels.old at step count }
     ensures { (result ≡ at + step * count) × (pixels.new ≡ scatter pixels.old at step (replicate count value)) }
 {
-    if step == 1 {
-        return fill(pixels, at, 1, count, value);
+    match step {
+        1 => fill(value, count, pixels, at, 1),
+        2 => fill(value, count, pixels, at, 2),
+        3 => fill(value, count, pixels, at, 3),
+        4 => fill(value, count, pixels, at, 4),
+        _ => fill(value, count, pixels, at, step),
     }
-    if step == 2 {
-        return fill(pixels, at, 2, count, value);
-    }
-    if step == 3 {
-        return fill(pixels, at, 3, count, value);
-    }
-    if step == 4 {
-        return fill(pixels, at, 4, count, value);
-    }
-    fill(pixels, at, step, count, value)
 }
 
 // `copy`, with a loop of its own for each depth of a pixel.
-fn put_copy(
-    window: &[u8],
-    from: usize,
-    pixels: &mut [u8],
-    at: usize,
-    step: usize,
-    count: usize,
-) -> usize
-    requires { (from + count ≤ length window.now) × StepRoom pixels.old at step count }
-    ensures { (result ≡ at + step * count) × (pixels.new ≡ scatter pixels.old at step (take count (drop from window.now))) }
+fn put_copy(bytes: &[u8], pixels: &mut [u8], at: usize, step: usize) -> usize
+    requires { StepRoom pixels.old at step (length bytes.now) }
+    ensures { (result ≡ at + step * length bytes.now) × (pixels.new ≡ scatter pixels.old at step bytes.now) }
 {
-    if step == 1 {
-        return copy(window, from, pixels, at, 1, count);
+    match step {
+        1 => copy(bytes, pixels, at, 1),
+        2 => copy(bytes, pixels, at, 2),
+        3 => copy(bytes, pixels, at, 3),
+        4 => copy(bytes, pixels, at, 4),
+        _ => copy(bytes, pixels, at, step),
     }
-    if step == 2 {
-        return copy(window, from, pixels, at, 2, count);
-    }
-    if step == 3 {
-        return copy(window, from, pixels, at, 3, count);
-    }
-    if step == 4 {
-        return copy(window, from, pixels, at, 4, count);
-    }
-    copy(window, from, pixels, at, step, count)
 }
 
-// What an operation with its data at `from` gives, a run or a copy, at `at` and every `step` bytes after it.
-pub(crate) fn put_given(
-    window: &[u8],
-    run: bool,
-    from: usize,
-    pixels: &mut [u8],
-    at: usize,
-    step: usize,
-    count: usize,
-) -> usize
-    requires { (from + data_size run count ≤ length window.now) × StepRoom pixels.old at step count }
-    ensures { (result ≡ at + step * count) × (pixels.new ≡ scatter pixels.old at step (given window.now run from count)) }
+// What an operation gives, at `at` and every `step` bytes after it.
+pub(crate) fn put(bytes: Bytes<'_>, pixels: &mut [u8], at: usize, step: usize) -> usize
+    requires { StepRoom pixels.old at step (length (given bytes)) }
+    ensures { (result ≡ at + step * length (given bytes.entry)) × (pixels.new ≡ scatter pixels.old at step (given bytes.entry)) }
 {
-    if run {
-        return put_run(pixels, at, step, count, window[from]);
-    }
-    put_copy(window, from, pixels, at, step, count)
-}
-
-pub fn clear(pixels: &mut [u8])
-    ensures { pixels.new ≡ replicate (length pixels.old) 0 }
-{
-    let mut i = 0;
-    while i < pixels.len() {
-        pixels[i] = 0;
-        i += 1;
+    match bytes {
+        Bytes::Run { value, count } => put_run(value, count, pixels, at, step),
+        Bytes::Copy(bytes) => put_copy(bytes, pixels, at, step),
     }
 }

@@ -3,12 +3,16 @@
 use mathlib.Core.Path.{◌≡◌, refl, ◌∙◌}
 use mathlib.Core.List.{List, [], ◌∷◌, ◌++◌, flat_map}
 use mathlib.Core.Bool.{Bool, true, false, cond}
-use Prim.Native.Nat.{ℕ, ◌+◌}
+use Prim.Native.Nat.{ℕ, ◌+◌, ◌*◌, ◌≤◌}
+use mir.Val.{bool_byte}
+use native.Mathlib.Omega.{arith}
 use lib.ListN.{length, length-append}
 use Rattle.xcf_numbers.specs.Flag
 use Rattle.xcf_numbers.specs.Flag.{flag_set}
 use Rattle.xcf_numbers.specs.PropertyType
 use Rattle.xcf_laws.proofs.FlatMaps.{flat_map-append}
+use Rattle.xcf_property.specs.declared.ListKind.{ListKind}
+use Rattle.xcf_property.specs.List.{list_number, ListOf}
 use Rattle.xcf_property.specs.Property.{active_type}
 use Rattle.xcf_table.specs.declared.Row.{Row}
 use Rattle.xcf_usable.specs.Usable.{is_layer, visible, apply}
@@ -42,6 +46,11 @@ shown_words a b = refl
 layer_words : (a b c : ℕ) → list_bytes (worded PropertyType.mode (a ∷ []) ∷ worded PropertyType.offsets (b ∷ c ∷ []) ∷ []) ≡ words (PropertyType.mode ∷ 4 ∷ a ∷ PropertyType.offsets ∷ 8 ∷ b ∷ c ∷ [])
 unfolding flat_map property_bytes word_bytes
 layer_words a b c = refl
+
+-- an active drawable's property is by its row's kind, though that is read as a kind of list
+pub active_of : {kind : ℕ} {list : ListKind} → ListOf kind list → active_type (list_number list) ≡ active_type kind
+unfolding active_type
+active_of h = rw h.layer
 
 -- the list as it is stored: from a part on to its end
 module _ (r : Row) (has_mask : Bool) where
@@ -82,5 +91,14 @@ list_words r has_mask =
       flag_words PropertyType.end,
     )
 
-pub list_length : (r : Row) (has_mask : Bool) → length (list_bytes (drawable_properties r has_mask)) ≡ cond (flag_set r.flags Flag.selection) 8 0 + (cond (flag_set r.flags Flag.active) 8 0 + (24 + (cond has_mask 12 0 + (cond (is_layer r) 28 0 + 8))))
-list_length r has_mask = rw list_words (simp (length-append, when_length, words_length))
+-- what is there by a test, as its count of bytes
+pub cond_times : (test : Bool) (n : ℕ) → cond test n 0 ≡ n * bool_byte test
+cond_times true n = omega arith
+cond_times false n = omega arith
+
+pub list_length : (r : Row) (has_mask : Bool) → length (list_bytes (drawable_properties r has_mask)) ≡ 8 * bool_byte (flag_set r.flags Flag.selection) + 8 * bool_byte (flag_set r.flags Flag.active) + 24 + 12 * bool_byte has_mask + 28 * bool_byte (is_layer r) + 8
+list_length r has_mask = rw list_words (simp (length-append, when_length, words_length, cond_times) (omega arith))
+
+pub byte_most : (test : Bool) → bool_byte test ≤ 1
+byte_most true = omega arith
+byte_most false = omega arith

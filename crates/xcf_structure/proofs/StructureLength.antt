@@ -3,7 +3,8 @@
 use mathlib.Core.Path.{◌≡◌, sym, ◌∙◌}
 use mathlib.Core.List.{List, [], ◌∷◌, ◌++◌, append_assoc}
 use mathlib.Core.Bool.{Bool, true, false, cond}
-use Prim.Native.Nat.{ℕ, ◌+◌}
+use Prim.Native.Nat.{ℕ, ◌+◌, ◌*◌}
+use mir.Val.{bool_byte}
 use native.Mathlib.Omega.{arith}
 use lib.ListN.{length, length-append}
 use lib.Dec.{eqb}
@@ -11,6 +12,7 @@ use Rattle.xcf_laws.proofs.FlatMaps.{flat_map-cons, flat_map-append}
 use Rattle.xcf_table.specs.declared.Row.{Row}
 use Rattle.xcf_usable.specs.Usable.{is_layer}
 use Rattle.xcf_store.specs.Word.{word_bytes, words, when}
+use Rattle.xcf_structure.proofs.Lists.{cond_times}
 use Rattle.xcf_structure.specs.Structure.{name_bytes, list_bytes, drawable_properties, structure_bytes}
 use Rattle.xcf_store.proofs.Words.{word_length, words_length, when_length}
 
@@ -49,8 +51,8 @@ module _ (r : Row) (has_mask : Bool) (name : List ℕ) where
   structure_words hierarchy mask =
       rw (flat_map-append word_bytes (r.width ∷ r.height ∷ []) (when (is_layer r) (r.form ∷ [])), append_assoc, flat_map-cons word_bytes hierarchy)
 
-  pub structure_size_lem : (hierarchy mask : ℕ) → length (structure_bytes r has_mask name hierarchy mask) ≡ 8 + cond (is_layer r) 4 0 + (length (name_bytes name) + (length (list_bytes (drawable_properties r has_mask)) + (4 + cond (is_layer r) 4 0)))
-  structure_size_lem hierarchy mask = rw structure_words (simp (length-append, when_length, words_length, word_length) (omega arith))
+  pub structure_size_lem : (hierarchy mask : ℕ) → length (structure_bytes r has_mask name hierarchy mask) ≡ 12 + 8 * bool_byte (is_layer r) + length (name_bytes name) + length (list_bytes (drawable_properties r has_mask))
+  structure_size_lem hierarchy mask = rw structure_words (simp (length-append, when_length, words_length, word_length, cond_times) (omega arith))
 
   pub structure_length : (h m : ℕ) → length (structure_bytes r has_mask name h m) ≡ length (structure_bytes r has_mask name 0 0)
   structure_length h m = structure_size_lem h m ∙ sym (structure_size_lem 0 0)

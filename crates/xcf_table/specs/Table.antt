@@ -1,5 +1,5 @@
 -- The row table: 128 rows of 16 numbers.
-use Rattle.std.specs.Prelude.{ℕ, ◌+◌, ◌-◌, ◌*◌, List, [], ◌∷◌, ◌++◌, cond, length, get_or, take, replicate, leb}
+use Rattle.std.specs.Prelude.{ℕ, ◌≡◌, ◌+◌, ◌-◌, ◌*◌, List, [], ◌∷◌, ◌++◌, cond, length, get_or, take, replicate, leb}
 use Rattle.std.proofs.Math.Seq.{paste}
 use Rattle.xcf_numbers.specs.Limit.{row_size, table_size}
 use Rattle.xcf_table.specs.declared.Row.{Row}
@@ -9,6 +9,9 @@ abbrev pub row_numbers : Row → List ℕ
 row_numbers r =
     r.kind ∷ r.width ∷ r.height ∷ r.depth ∷ r.form ∷ r.name ∷ r.namelen ∷ r.list ∷ r.pointers ∷ r.count
     ∷ r.opacity ∷ r.flags ∷ r.dx ∷ r.dy ∷ r.mode ∷ r.owner ∷ []
+
+abbrev pub NumbersOf : Row → List ℕ → Type 0
+NumbersOf r numbers = numbers ≡ row_numbers r
 
 -- rows one after another: how many, and their numbers
 pub record Rows : Type 0 where
@@ -50,9 +53,15 @@ row_in table at = record {
   owner = get_or table (at + 15) 0;
 }
 
+abbrev pub RowOf : List ℕ → Row → Type 0
+RowOf numbers r = r ≡ row_in numbers 0
+
 -- a row that is not used: its numbers are 0
 abbrev pub unused_row : Row
 unused_row = row_in [] 0
+
+abbrev pub IsUnused : Row → Type 0
+IsUnused r = r ≡ unused_row
 
 -- row k of a table, or an unused row where the table has no such row
 unfoldable pub row_at : List ℕ → ℕ → Row

@@ -14,17 +14,13 @@ pub struct Canvas {
 pub fn side_ok(n: u32) -> bool
     ensures { result ≡ side_ok n }
 {
-    if 1 <= n { n <= SIDE_LIMIT } else { false }
+    1 <= n && n <= SIDE_LIMIT
 }
 
 pub fn type_ok(base: u32, t: u32) -> bool
     ensures { result ≡ type_ok base t }
 {
-    if t <= TYPE_LIMIT {
-        t / 2 == base
-    } else {
-        false
-    }
+    t <= TYPE_LIMIT && t / 2 == base
 }
 
 const DEPTHS: [u32; 6] = [3, 4, 1, 2, 1, 2];
@@ -32,10 +28,5 @@ const DEPTHS: [u32; 6] = [3, 4, 1, 2, 1, 2];
 pub fn depth_of(t: u32) -> u32
     ensures { result ≡ depth_of t }
 {
-    if t < 6 {
-        let i = t as usize;
-        DEPTHS[i]
-    } else {
-        0
-    }
+    DEPTHS.get(t as usize).copied().unwrap_or(0)
 }

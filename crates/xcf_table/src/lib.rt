@@ -3,10 +3,8 @@
 
 pub mod canvas;
 
-ghost use Rattle.std.specs.Prelude.{◌≡◌, ◌+◌, ◌≤◌, length};
-ghost use Rattle.std.proofs.Math.Seq.{paste};
-ghost use Rattle.xcf_numbers.specs.Limit.{row_size};
-ghost use Rattle.xcf_table.specs.Table.{row_numbers, put_row, row_in, unused_row, row_at, clear_from};
+ghost use Rattle.std.specs.Prelude.{◌≡◌};
+ghost use Rattle.xcf_table.specs.Table.{NumbersOf, RowOf, IsUnused, put_row, row_at, clear_from};
 
 use xcf_numbers::limit::ROW_SIZE;
 
@@ -32,40 +30,61 @@ pub struct Row {
     pub owner: u32,
 }
 
-impl Row {
-    fn numbers(self) -> [u32; ROW_SIZE]
-        ensures { result ≡ row_numbers self }
-    {
+impl From<Row> for [u32; ROW_SIZE] {
+    ghost from_gives = { NumbersOf };
+
+    fn from(row: Row) -> [u32; ROW_SIZE] {
         [
-            self.kind,
-            self.width,
-            self.height,
-            self.depth,
-            self.form,
-            self.name,
-            self.namelen,
-            self.list,
-            self.pointers,
-            self.count,
-            self.opacity,
-            self.flags,
-            self.dx,
-            self.dy,
-            self.mode,
-            self.owner,
+            row.kind,
+            row.width,
+            row.height,
+            row.depth,
+            row.form,
+            row.name,
+            row.namelen,
+            row.list,
+            row.pointers,
+            row.count,
+            row.opacity,
+            row.flags,
+            row.dx,
+            row.dy,
+            row.mode,
+            row.owner,
         ]
     }
 }
 
-// The numbers of a row go into the table from a place on.
-fn put(table: &mut [u32], at: usize, row: [u32; ROW_SIZE])
-    requires { at + row_size ≤ length table.old }
-    ensures { table.new ≡ paste table.old at row row_size }
-{
-    let mut i = 0;
-    while i < ROW_SIZE {
-        table[at + i] = row[i];
-        i += 1;
+impl From<[u32; ROW_SIZE]> for Row {
+    ghost from_gives = { RowOf };
+
+    fn from(numbers: [u32; ROW_SIZE]) -> Row {
+        Row {
+            kind: numbers[0],
+            width: numbers[1],
+            height: numbers[2],
+            depth: numbers[3],
+            form: numbers[4],
+            name: numbers[5],
+            namelen: numbers[6],
+            list: numbers[7],
+            pointers: numbers[8],
+            count: numbers[9],
+            opacity: numbers[10],
+            flags: numbers[11],
+            dx: numbers[12],
+            dy: numbers[13],
+            mode: numbers[14],
+            owner: numbers[15],
+        }
+    }
+}
+
+impl Default for Row {
+    ghost is_default = { IsUnused };
+
+    fn default() -> Row {
+        Row::from([0; ROW_SIZE])
     }
 }
 
@@ -75,55 +94,8 @@ pub fn put_row(table: &mut [u32], k: u32, row: Row)
 {
     let at = ROW_SIZE * (k as usize);
     if at + ROW_SIZE <= table.len() {
-        put(table, at, row.numbers());
-    }
-}
-
-pub fn unused_row() -> Row
-    ensures { result ≡ unused_row }
-{
-    Row {
-        kind: 0,
-        width: 0,
-        height: 0,
-        depth: 0,
-        form: 0,
-        name: 0,
-        namelen: 0,
-        list: 0,
-        pointers: 0,
-        count: 0,
-        opacity: 0,
-        flags: 0,
-        dx: 0,
-        dy: 0,
-        mode: 0,
-        owner: 0,
-    }
-}
-
-// The numbers of the table from a place on, as a row.
-fn row_in(table: &[u32], at: usize) -> Row
-    requires { at + row_size ≤ length table.now }
-    ensures { result ≡ row_in table.now at }
-{
-    Row {
-        kind: table[at],
-        width: table[at + 1],
-        height: table[at + 2],
-        depth: table[at + 3],
-        form: table[at + 4],
-        name: table[at + 5],
-        namelen: table[at + 6],
-        list: table[at + 7],
-        pointers: table[at + 8],
-        count: table[at + 9],
-        opacity: table[at + 10],
-        flags: table[at + 11],
-        dx: table[at + 12],
-        dy: table[at + 13],
-        mode: table[at + 14],
-        owner: table[at + 15],
+        let numbers: [u32; ROW_SIZE] = row.into();
+        table[at..at + ROW_SIZE].copy_from_slice(&numbers);
     }
 }
 
@@ -133,18 +105,19 @@ pub fn row_at(table: &[u32], k: u32) -> Row
 {
     let start = ROW_SIZE * (k as usize);
     if start + ROW_SIZE <= table.len() {
-        return row_in(table, start);
+        let mut numbers = [0; ROW_SIZE];
+        numbers.copy_from_slice(&table[start..start + ROW_SIZE]);
+        return Row::from(numbers);
     }
-    unused_row()
+    Row::default()
 }
 
 // The numbers from row k on become zero.
 pub fn clear_from(table: &mut [u32], k: u32)
     ensures { table.new ≡ clear_from table.old k }
 {
-    let mut i = ROW_SIZE * (k as usize);
-    while i < table.len() {
-        table[i] = 0;
-        i += 1;
+    let first = ROW_SIZE * (k as usize);
+    if first < table.len() {
+        table[first..].fill(0);
     }
 }

@@ -1,68 +1,60 @@
-// Words and numbers put into a text.
+// Words and numbers put into a text, an output that is written forward.
 #![tactic(auto)]
 
 ghost use Rattle.std.specs.Prelude.{◌≡◌, ◌+◌, ◌*◌, ◌≤◌, length};
 ghost use mathlib.Core.List.{◌++◌, flat_map};
-ghost use Rattle.xcf_store.specs.Put.{PutWithin};
+ghost use Rattle.xcf_text.specs.Stores.{StoresWithin};
 ghost use Rattle.xcf_text.specs.Text.{newline, decimal, spaced, labelled, decimal_size, spaced_size};
 
-use xcf_store::put::put_bytes;
+use itoa::Buffer;
+use xcf_store::output::Output;
 
-// Room for a number of 64 bits.
-const DECIMAL_SIZE: usize = 20;
-
-pub fn put_decimal(text: &mut [u8], at: usize, n: u64) -> usize
-    requires { at + decimal_size ≤ length text.old }
-    ensures { PutWithin text.old at (decimal n) decimal_size result text.new }
+pub fn put_decimal(text: &mut Output<'_>, n: u64)
+    requires { text.old.at + decimal_size ≤ length text.old.bytes.now }
+    ensures stores { StoresWithin text.old (decimal n) decimal_size text.new }
+    ensures same { text.new.bytes.ghost_name ≡ text.old.bytes.ghost_name }
 {
-    let mut digits = [0u8; DECIMAL_SIZE];
-    let start = itoa::write_digits(n, &mut digits, DECIMAL_SIZE);
-    put_bytes(text, at, &digits[start..])
+    let mut digits = Buffer::new();
+    text.bytes(digits.format(n).as_bytes());
 }
 
 // A space and a number.
-pub fn put_spaced(text: &mut [u8], at: usize, n: u64) -> usize
-    requires { at + spaced_size ≤ length text.old }
-    ensures { PutWithin text.old at (spaced n) spaced_size result text.new }
+pub fn put_spaced(text: &mut Output<'_>, n: u64)
+    requires { text.old.at + spaced_size ≤ length text.old.bytes.now }
+    ensures stores { StoresWithin text.old (spaced n) spaced_size text.new }
+    ensures same { text.new.bytes.ghost_name ≡ text.old.bytes.ghost_name }
 {
-    let next = put_bytes(text, at, b" ");
-    put_decimal(text, next, n)
+    text.bytes(b" ");
+    put_decimal(text, n);
 }
 
 // A label, and a number behind a space.
-pub fn put_labelled(text: &mut [u8], at: usize, label: &[u8], n: u64) -> usize
-    requires { at + length label.now + spaced_size ≤ length text.old }
-    ensures { PutWithin text.old at (labelled label.now n) (length label.now + spaced_size) result text.new }
+pub fn put_labelled(text: &mut Output<'_>, label: &[u8], n: u64)
+    requires { text.old.at + length label.now + spaced_size ≤ length text.old.bytes.now }
+    ensures stores { StoresWithin text.old (labelled label.now n) (length label.now + spaced_size) text.new }
+    ensures same { text.new.bytes.ghost_name ≡ text.old.bytes.ghost_name }
 {
-    let next = put_bytes(text, at, label);
-    put_spaced(text, next, n)
+    text.bytes(label);
+    put_spaced(text, n);
 }
 
 // The same at a line's end.
-pub fn put_last(text: &mut [u8], at: usize, label: &[u8], n: u64) -> usize
-    requires { at + length label.now + (spaced_size + 1) ≤ length text.old }
-    ensures { PutWithin text.old at (labelled label.now n ++ newline) (length label.now + (spaced_size + 1)) result text.new }
+pub fn put_last(text: &mut Output<'_>, label: &[u8], n: u64)
+    requires { text.old.at + length label.now + (spaced_size + 1) ≤ length text.old.bytes.now }
+    ensures stores { StoresWithin text.old (labelled label.now n ++ newline) (length label.now + (spaced_size + 1)) text.new }
+    ensures same { text.new.bytes.ghost_name ≡ text.old.bytes.ghost_name }
 {
-    let next = put_labelled(text, at, label, n);
-    put_bytes(text, next, b"\n")
+    put_labelled(text, label, n);
+    text.bytes(b"\n");
 }
 
 // Numbers, each behind a space.
-pub fn put_all(text: &mut [u8], at: usize, numbers: &[u32]) -> usize
-    requires { at + spaced_size * length numbers.now ≤ length text.old }
-    ensures { PutWithin text.old at (flat_map spaced numbers.now) (spaced_size * length numbers.now) result text.new }
+pub fn put_all(text: &mut Output<'_>, numbers: &[u32])
+    requires { text.old.at + spaced_size * length numbers.now ≤ length text.old.bytes.now }
+    ensures stores { StoresWithin text.old (flat_map spaced numbers.now) (spaced_size * length numbers.now) text.new }
+    ensures same { text.new.bytes.ghost_name ≡ text.old.bytes.ghost_name }
 {
-    let mut next = at;
-    let mut i = 0;
-    while i < numbers.len() {
-        next = put_spaced(text, next, wide(numbers[i]));
-        i += 1;
+    for n in numbers {
+        put_spaced(text, u64::from(*n));
     }
-    next
-}
-
-fn wide(n: u32) -> u64
-    ensures { result ≡ n }
-{
-    n as u64
 }

@@ -8,9 +8,9 @@ use mathlib.Core.Bool.{true, and-eq-true_iff}
 use borrow.Author.Tests.{eq-eqb, eqb-true}
 use lib.Dec.{leb, eqb}
 use lib.ListN.{length}
+use Rattle.std.proofs.lemmas.Bool.{cond_both}
 use Rattle.xcf_numbers.specs.Limit.{file_limit, table_size}
 use Rattle.xcf_numbers.specs.Listed.{listed}
-use Rattle.xcf_laws.proofs.Cases.{by_cases}
 use Rattle.xcf_read.specs.Answer.{verdict_numbers, Reading, reading}
 use Rattle.xcf_read_laws.proofs.ReaderNumbers.{verdict_listed}
 use Rattle.xcf_listing.specs.Listing.{reading_within, lent_fits, Listing, answer_of, listing, lister_numbers, ListsAsTheReader}
@@ -19,7 +19,7 @@ within_listed : (limit : ℕ) (file table : List ℕ) → length table ≡ table
     → listed verdict_numbers (reading_within limit file table).answer.number ≡ true
 unfolding reading_within listed
 within_listed limit file table fit =
-    by_cases (λ (x : Reading). listed verdict_numbers x.answer.number ≡ true) (leb (length file) limit) _ _
+    cond_both (leb (length file) limit) _ _ (λ (x : Reading). listed verdict_numbers x.answer.number ≡ true)
     (λ _. verdict_listed file table fit) (λ _. refl)
 
 -- a table that fits has the right length
@@ -31,8 +31,8 @@ pub lister_listed : (limit : ℕ) (file table text : List ℕ) →
     let a = (listing limit file table text).answer in (listed lister_numbers a.number ≡ true) × (listed verdict_numbers a.refused ≡ true)
 unfolding listing answer_of listed
 lister_listed limit file table text =
-    by_cases (λ (x : Listing). (listed lister_numbers x.answer.number ≡ true) × (listed verdict_numbers x.answer.refused ≡ true))
-    (lent_fits (length table) (length text)) _ _
+    cond_both (lent_fits (length table) (length text))
+    _ _ (λ (x : Listing). (listed lister_numbers x.answer.number ≡ true) × (listed verdict_numbers x.answer.refused ≡ true))
     (λ fit. (refl, within_listed limit file table (table_fits _ _ fit)))
     (λ _. (refl, refl))
 
@@ -40,7 +40,7 @@ lister_listed limit file table text =
 pub within_all : (file table : List ℕ) → length table ≡ table_size → reading_within file_limit file table ≡ reading file table
 unfolding reading_within reading
 within_all file table fit =
-    by_cases (λ (x : Reading). x ≡ reading file table) (leb (length file) file_limit) _ _ (λ _. refl) (λ long. rw (eq-eqb _ _ fit, long))
+    cond_both (leb (length file) file_limit) _ _ (λ (x : Reading). x ≡ reading file table) (λ _. refl) (λ long. rw (eq-eqb _ _ fit, long))
 
 pub lister_as_reader : (file table text : List ℕ) → ListsAsTheReader file table text
 unfolding listing answer_of

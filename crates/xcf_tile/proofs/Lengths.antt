@@ -8,10 +8,10 @@ use native.Mathlib.Omega.{arith}
 use borrow.Author.Tests.{ltb-false, eqb-true, eqb-false}
 use lib.ListN.{length, length-append}
 use lib.Dec.{ltb, eqb}
+use Rattle.std.proofs.lemmas.Bool.{cond_both}
 use Rattle.xcf_operation.specs.Operation.{Operation, gives, short, over, operation_at}
 use Rattle.xcf_stream.specs.Stream.{Stream, stream_from, stream_within, stream_at}
 use Rattle.xcf_stream.specs.Streams.{Streams, in_front, streams_at}
-use Rattle.xcf_laws.proofs.Cases.{by_cases}
 use Rattle.xcf_stream.proofs.StreamLaws.{Sound, sound}
 
 -- where the mark is 0, so many bytes are out
@@ -26,9 +26,9 @@ from_whole rest ws at left (gives bs next) s h = λ z. simp length-append (omega
 
 within_whole : (fuel : ℕ) (ws : List ℕ) (at left : ℕ) → Whole left (stream_within fuel ws at left)
 unfolding stream_within
-within_whole zero ws at left = by_cases (Whole left) (ltb 0 left) _ _ (λ _ z. absurd (omega arith)) (λ e z. omega (arith, ltb-false 0 left e))
+within_whole zero ws at left = cond_both (ltb 0 left) _ _ (Whole left) (λ _ z. absurd (omega arith)) (λ e z. omega (arith, ltb-false 0 left e))
 within_whole (suc fuel) ws at left =
-    by_cases (Whole left) (ltb 0 left) _ _ (λ _. from_whole (stream_within fuel ws) ws at left (operation_at ws at left) (sound ws at left refl) (within_whole fuel ws))
+    cond_both (ltb 0 left) _ _ (Whole left) (λ _. from_whole (stream_within fuel ws) ws at left (operation_at ws at left) (sound ws at left refl) (within_whole fuel ws))
     (λ e z. omega (arith, ltb-false 0 left e))
 
 pub stream_whole : (ws : List ℕ) (at left : ℕ) → (stream_at ws at left).mark ≡ 0 → length (stream_at ws at left).bytes ≡ left
@@ -46,7 +46,7 @@ pub record WholeTile (count n : ℕ) (s : Streams) : Type 0 where
 
 before_whole : (count n : ℕ) (s : Stream) (t : Streams) → (s.mark ≡ 0 → length s.bytes ≡ n) → (t.mark ≡ 0 → WholeTile count n t) → (in_front s t).mark ≡ 0 → WholeTile (suc count) n (in_front s t)
 before_whole count n s t f g =
-    by_cases (λ (u : Streams). u.mark ≡ 0 → WholeTile (suc count) n u) (eqb s.mark 0) _ _
+    cond_both (eqb s.mark 0) _ _ (λ (u : Streams). u.mark ≡ 0 → WholeTile (suc count) n u)
     (λ e z. record { planes = ap suc (g z).planes; each = (f (eqb-true _ _ e), (g z).each) })
     (λ e z. absurd (eqb-false _ _ e z))
 

@@ -1,3 +1,4 @@
 pub mod Tile
 pub mod Answer
+pub mod Compression
 pub mod Parts

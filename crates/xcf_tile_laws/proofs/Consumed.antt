@@ -4,22 +4,22 @@
 -- induction over the fuel a good stream, over the streams a good tile. No stream ends before it starts (`stream_ends`).
 -- Assumes nothing.
 use mathlib.Core.Path.{◌≡◌, refl, sym, ap, subst, ◌∙◌}
-use mathlib.Core.List.{List, [], ◌∷◌}
+use mathlib.Core.List.{List}
 use mathlib.Core.Bool.{Bool, true, false, cond}
 use Prim.Native.Nat.{ℕ, zero, suc, ◌+◌, ◌*◌, ◌-◌, ◌≤◌, ◌<◌}
-use native.Mathlib.Nat.{le_trans, zero-add, suc-add}
+use native.Mathlib.Nat.{le_trans}
 use native.Mathlib.Omega.{arith}
 use borrow.Author.Tests.{ltb-true, ltb-false, lt-leb, le-ltb, eqb-true, eqb-false, le-leb, leb-true}
 use lib.ListN.{length, get_or, take, drop, replicate, length-take}
-use lib.Seq.{get_or-take, take-take, take-nil}
+use lib.Seq.{get_or-take, take-take}
 use lib.Dec.{ltb, leb, eqb}
+use Rattle.std.proofs.lemmas.List.{drop-take}
+use Rattle.std.proofs.lemmas.Bool.{cond_both}
 use Rattle.xcf_numbers.specs.Limit.{window_limit}
 use Rattle.xcf_operation.specs.Operation.{Head, run_head, copy_head, cut, head_at, head_of, Operation, gives, short, over, unless_fails, operation_at, operation_of}
-use Rattle.xcf_operation.specs.Parts.{head_for}
 use Rattle.xcf_stream.specs.Stream.{Stream, adds, stream_from, stream_within, stream_at}
 use Rattle.xcf_stream.specs.Streams.{Streams, streams_at}
 use Rattle.xcf_tile.specs.Tile.{Tile, plain_tile, encoded_tile, tile_in, tile_of}
-use Rattle.xcf_laws.proofs.Cases.{by_cases}
 use Rattle.xcf_stream.proofs.StreamLaws.{Sound, sound, stream_done, stream_op}
 
 -- a head that is read before m
@@ -28,7 +28,7 @@ HeadBefore m cut = ⊥
 HeadBefore m (run_head count body) = body ≤ m
 HeadBefore m (copy_head count body) = body ≤ m
 
-body_before : (m : ℕ) (run : Bool) (count body : ℕ) → HeadBefore m (head_for run count body) → body ≤ m
+body_before : (m : ℕ) (run : Bool) (count body : ℕ) → HeadBefore m (cond run (run_head count body) (copy_head count body)) → body ≤ m
 body_before m true count body h = h
 body_before m false count body h = h
 
@@ -50,9 +50,9 @@ from_ends rest ws at left (gives bs next) s h = let e = h next (left - length bs
 
 within_ends : (fuel : ℕ) (ws : List ℕ) (at left : ℕ) → Ends ws at (stream_within fuel ws at left)
 unfolding stream_within
-within_ends zero ws at left = by_cases (Ends ws at) (ltb 0 left) _ _ (λ _. (omega arith, λ i. i)) (λ _. (omega arith, λ i. i))
+within_ends zero ws at left = cond_both (ltb 0 left) _ _ (Ends ws at) (λ _. (omega arith, λ i. i)) (λ _. (omega arith, λ i. i))
 within_ends (suc fuel) ws at left =
-    by_cases (Ends ws at) (ltb 0 left) _ _ (λ _. from_ends (stream_within fuel ws) ws at left (operation_at ws at left) (sound ws at left refl) (within_ends fuel ws))
+    cond_both (ltb 0 left) _ _ (Ends ws at) (λ _. from_ends (stream_within fuel ws) ws at left (operation_at ws at left) (sound ws at left refl) (within_ends fuel ws))
     (λ _. (omega arith, λ i. i))
 
 stream_ends : (ws : List ℕ) (at left : ℕ) → Ends ws at (stream_at ws at left)
@@ -68,12 +68,7 @@ streams_ends zero ws at n = (omega arith, λ i. i)
 streams_ends (suc count) ws at n =
     let s = stream_ends ws at n in
     let r = streams_ends count ws (stream_at ws at n).at n in
-    by_cases (AllEnd ws at) (eqb (stream_at ws at n).mark 0) _ _ (λ _. (le_trans s.0 r.0, λ i. r.1 (s.1 i))) (λ _. s)
-
-take_drop : (from count : ℕ) (l : List ℕ) → take count (drop from l) ≡ drop from (take (from + count) l)
-take_drop zero count l = rw zero-add
-take_drop (suc from) count [] = rw (take-nil, take-nil)
-take_drop (suc from) count (x ∷ l) = rw suc-add (take_drop from count l)
+    cond_both (eqb (stream_at ws at n).mark 0) _ _ (AllEnd ws at) (λ _. (le_trans s.0 r.0, λ i. r.1 (s.1 i))) (λ _. s)
 
 module _ (ws vs : List ℕ) (m : ℕ) (same : take m ws ≡ take m vs) (long : m ≤ length vs) where
   byte_same : (i : ℕ) → i < m → get_or vs i 0 ≡ get_or ws i 0
@@ -81,9 +76,9 @@ module _ (ws vs : List ℕ) (m : ℕ) (same : take m ws ≡ take m vs) (long : m
 
   copied_same : (from count : ℕ) → from + count ≤ m → take count (drop from vs) ≡ take count (drop from ws)
   copied_same from count h =
-      take_drop from count vs
+      sym (drop-take from count vs)
       ∙ ap (drop from) (sym (take-take (from + count) m vs h) ∙ ap (take (from + count)) (sym same) ∙ take-take (from + count) m ws h)
-      ∙ sym (take_drop from count ws)
+      ∙ drop-take from count ws
 
   abbrev HeadSame : ℕ → Head → Type 0
   HeadSame at h = HeadBefore m h → head_at vs at ≡ h
@@ -91,12 +86,12 @@ module _ (ws vs : List ℕ) (m : ℕ) (same : take m ws ≡ take m vs) (long : m
   head_same : (at : ℕ) → HeadSame at (head_at ws at)
   unfolding head_at head_of
   head_same at =
-      by_cases (HeadSame at) (leb (length ws) at) _ _ (λ _. absurd)
-      (λ _. by_cases (HeadSame at) (ltb (get_or ws at 0) 127) _ _
+      cond_both (leb (length ws) at) _ _ (HeadSame at) (λ _. absurd)
+      (λ _. cond_both (ltb (get_or ws at 0) 127) _ _ (HeadSame at)
       (λ e b. simp (lt-leb (length vs) at (omega arith), byte_same at (omega arith), e))
-      (λ e. by_cases (HeadSame at) (ltb 128 (get_or ws at 0)) _ _
+      (λ e. cond_both (ltb 128 (get_or ws at 0)) _ _ (HeadSame at)
       (λ f b. simp (lt-leb (length vs) at (omega arith), byte_same at (omega arith), e, f))
-      (λ f. by_cases (HeadSame at) (ltb (length ws) (at + 3)) _ _ (λ _. absurd)
+      (λ f. cond_both (ltb (length ws) (at + 3)) _ _ (HeadSame at) (λ _. absurd)
       (λ _ b.
       let i : at + 3 ≤ m = body_before m (eqb (get_or ws at 0) 127) _ _ b in
       simp (lt-leb (length vs) at (omega arith), byte_same at (omega arith), e, f, le-ltb (length vs) (at + 3) (omega arith), byte_same (at + 1) (omega arith), byte_same (at + 1 + 1) (omega arith))))))
@@ -108,8 +103,8 @@ module _ (ws vs : List ℕ) (m : ℕ) (same : take m ws ≡ take m vs) (long : m
   -- an operation that gives the same bytes in both windows
   unless_same : (left count body size : ℕ) {bs bs' : List ℕ} → (body + size ≤ m → bs' ≡ bs) → UnlessSame left count body size bs' (unless_fails ws left count body size (gives bs (body + size)))
   unless_same left count body size {bs} {bs'} f =
-      by_cases (UnlessSame left count body size bs') (ltb left count) _ _ (λ _. absurd)
-      (λ e. by_cases (UnlessSame left count body size bs') (ltb (length ws) (body + size)) _ _ (λ _. absurd)
+      cond_both (ltb left count) _ _ (UnlessSame left count body size bs') (λ _. absurd)
+      (λ e. cond_both (ltb (length ws) (body + size)) _ _ (UnlessSame left count body size bs') (λ _. absurd)
       (λ _ b. (omega arith, simp (e, le-ltb (length vs) (body + size) (omega arith), f b))))
 
   operation_of_same : (left : ℕ) (h : Head) → Before m (operation_of ws left h) → HeadBefore m h × (operation_of vs left h ≡ operation_of ws left h)
@@ -140,10 +135,10 @@ module _ (ws vs : List ℕ) (m : ℕ) (same : take m ws ≡ take m vs) (long : m
   within_same : (fuel at left : ℕ) → StreamSame at left (stream_within fuel ws at left)
   unfolding stream_within
   within_same zero at left =
-      by_cases (StreamSame at left) (ltb 0 left) _ _ (λ _ z. absurd (omega arith))
+      cond_both (ltb 0 left) _ _ (StreamSame at left) (λ _ z. absurd (omega arith))
       (λ e _ _. let z : left ≡ 0 = omega (arith, ltb-false 0 left e) in rw z (stream_done vs at))
   within_same (suc fuel) at left =
-      by_cases (StreamSame at left) (ltb 0 left) _ _
+      cond_both (ltb 0 left) _ _ (StreamSame at left)
       (λ e. from_same fuel at left (operation_at ws at left) (ltb-true 0 left e) refl (within_same fuel))
       (λ e _ _. let z : left ≡ 0 = omega (arith, ltb-false 0 left e) in rw z (stream_done vs at))
 
@@ -158,7 +153,7 @@ module _ (ws vs : List ℕ) (m : ℕ) (same : take m ws ≡ take m vs) (long : m
   unfolding streams_at
   streams_same zero at n = λ _ _. refl
   streams_same (suc count) at n =
-      by_cases (StreamsSame (suc count) at n) (eqb (stream_at ws at n).mark 0) _ _
+      cond_both (eqb (stream_at ws at n).mark 0) _ _ (StreamsSame (suc count) at n)
       (λ e z b.
       let s = stream_same at n (eqb-true _ _ e) (omega (arith, (streams_ends count ws (stream_at ws at n).at n).0)) in
       rw (s, streams_same count (stream_at ws at n).at n z b) (simp e))
@@ -175,7 +170,7 @@ cond_same ws vs false f g = g
 plain_same : (ws vs : List ℕ) (n depth : ℕ) → TileSame ws vs (plain_tile ws n depth) (plain_tile vs n depth)
 unfolding plain_tile
 plain_same ws vs n depth =
-    by_cases (λ (s : Tile). TileSame ws vs s (plain_tile vs n depth)) (leb (n * depth) (length ws)) _ _
+    cond_both (leb (n * depth) (length ws)) _ _ (λ (s : Tile). TileSame ws vs s (plain_tile vs n depth))
     (λ _ _ l e. simp (le-leb (n * depth) (length vs) l, e))
     (λ _ z. absurd (omega arith))
 
@@ -195,8 +190,8 @@ Inside ws t = t.consumed ≤ length ws
 in_inside : (ws : List ℕ) (n depth compression : ℕ) → Inside ws (tile_in ws n depth compression)
 unfolding tile_in plain_tile encoded_tile
 in_inside ws n depth compression =
-    by_cases (Inside ws) (eqb compression 0) _ _
-    (λ _. by_cases (Inside ws) (leb (n * depth) (length ws)) _ _ (leb-true (n * depth) (length ws)) (λ _. omega arith))
+    cond_both (eqb compression 0) _ _ (Inside ws)
+    (λ _. cond_both (leb (n * depth) (length ws)) _ _ (Inside ws) (leb-true (n * depth) (length ws)) (λ _. omega arith))
     (λ _. (streams_ends depth ws 0 n).1 (omega arith))
 
 pub consumed_inside : (window : List ℕ) (w h depth compression : ℕ) → Inside window (tile_of window w h depth compression)

@@ -6,13 +6,13 @@ use mathlib.Core.List.{List}
 use mathlib.Core.Logic.{◌⊎◌, inl, inr}
 use lib.ListN.{length, take}
 use lib.Dec.{ltb, leb, eqb}
+use Rattle.std.proofs.lemmas.Bool.{cond_both}
 use Rattle.xcf_numbers.specs.Limit.{window_limit}
 use Rattle.xcf_numbers.specs.Mark
 use Rattle.xcf_operation.specs.Operation.{Operation, gives, short, over, operation_at}
 use Rattle.xcf_stream.specs.Stream.{Stream, stream_from, stream_within, stream_at}
 use Rattle.xcf_stream.specs.Streams.{Streams, streams_at}
 use Rattle.xcf_tile.specs.Tile.{Tile, plain_tile, encoded_tile, tile_in, tile_of}
-use Rattle.xcf_laws.proofs.Cases.{by_cases}
 
 -- good, or one of the two faults
 abbrev pub Listed : ℕ → Type 0
@@ -27,9 +27,9 @@ from_listed rest at left (gives bs next) h = h next (left - length bs)
 
 within_listed : (fuel : ℕ) (ws : List ℕ) (at left : ℕ) → Listed (stream_within fuel ws at left).mark
 unfolding stream_within
-within_listed zero ws at left = by_cases (λ (s : Stream). Listed s.mark) (ltb 0 left) _ _ (λ _. inr (inl refl)) (λ _. inl refl)
+within_listed zero ws at left = cond_both (ltb 0 left) _ _ (λ (s : Stream). Listed s.mark) (λ _. inr (inl refl)) (λ _. inl refl)
 within_listed (suc fuel) ws at left =
-    by_cases (λ (s : Stream). Listed s.mark) (ltb 0 left) _ _
+    cond_both (ltb 0 left) _ _ (λ (s : Stream). Listed s.mark)
     (λ _. from_listed (stream_within fuel ws) at left (operation_at ws at left) (within_listed fuel ws)) (λ _. inl refl)
 
 stream_listed : (ws : List ℕ) (at left : ℕ) → Listed (stream_at ws at left).mark
@@ -41,14 +41,14 @@ streams_listed : (count : ℕ) (ws : List ℕ) (at n : ℕ) → Listed (streams_
 unfolding streams_at
 streams_listed zero ws at n = inl refl
 streams_listed (suc count) ws at n =
-    by_cases (λ (s : Streams). Listed s.mark) (eqb (stream_at ws at n).mark 0) _ _
+    cond_both (eqb (stream_at ws at n).mark 0) _ _ (λ (s : Streams). Listed s.mark)
     (λ _. streams_listed count ws (stream_at ws at n).at n) (λ _. stream_listed ws at n)
 
 in_listed : (ws : List ℕ) (n depth compression : ℕ) → Listed (tile_in ws n depth compression).mark
 unfolding tile_in plain_tile encoded_tile
 in_listed ws n depth compression =
-    by_cases (λ (t : Tile). Listed t.mark) (eqb compression 0) _ _
-    (λ _. by_cases (λ (t : Tile). Listed t.mark) (leb (n * depth) (length ws)) _ _ (λ _. inl refl) (λ _. inr (inl refl)))
+    cond_both (eqb compression 0) _ _ (λ (t : Tile). Listed t.mark)
+    (λ _. cond_both (leb (n * depth) (length ws)) _ _ (λ (t : Tile). Listed t.mark) (λ _. inl refl) (λ _. inr (inl refl)))
     (λ _. streams_listed depth ws 0 n)
 
 pub mark_listed : (window : List ℕ) (w h depth compression : ℕ) → Listed (tile_of window w h depth compression).mark

@@ -9,10 +9,10 @@ use borrow.Author.Tests.{leb-true, eqb-true, eq-eqb, ne_eqb}
 use lib.ListN.{length, get_or, take, replicate, length-replicate}
 use lib.Seq.{length-take-le}
 use lib.Dec.{leb, eqb}
+use Rattle.std.proofs.lemmas.Bool.{cond_both}
 use Rattle.xcf_numbers.specs.Limit.{window_limit}
 use Rattle.xcf_stream.specs.Streams.{streams_at}
 use Rattle.xcf_tile.specs.Tile.{Tile, plain_tile, encoded_tile, tile_in, tile_of}
-use Rattle.xcf_laws.proofs.Cases.{by_cases}
 use Rattle.xcf_tile.proofs.Lengths.{streams_whole}
 use Rattle.xcf_tile.proofs.Interleaved.{interleave_length, interleave_at}
 
@@ -22,13 +22,13 @@ Whole size t = length t.pixels ≡ size
 plain_length : (ws : List ℕ) (n depth : ℕ) → Whole (n * depth) (plain_tile ws n depth)
 unfolding plain_tile
 plain_length ws n depth =
-    by_cases (Whole (n * depth)) (leb (n * depth) (length ws)) _ _ (λ e. length-take-le (n * depth) ws (leb-true _ _ e))
+    cond_both (leb (n * depth) (length ws)) _ _ (Whole (n * depth)) (λ e. length-take-le (n * depth) ws (leb-true _ _ e))
     (λ _. length-replicate _ _)
 
 encoded_length : (ws : List ℕ) (n depth : ℕ) → Whole (n * depth) (encoded_tile ws n depth)
 unfolding encoded_tile
 encoded_length ws n depth =
-    by_cases (λ (l : List ℕ). length l ≡ n * depth) (eqb (streams_at depth ws 0 n).mark 0) _ _
+    cond_both (eqb (streams_at depth ws 0 n).mark 0) _ _ (λ (l : List ℕ). length l ≡ n * depth)
     (λ e.
     interleave_length n 0 (streams_at depth ws 0 n).planes
     ∙ ap (λ (d : ℕ). d * n) (streams_whole depth ws 0 n (eqb-true _ _ e)).planes
@@ -38,7 +38,7 @@ encoded_length ws n depth =
 pub pixels_length : (window : List ℕ) (w h depth compression : ℕ) → length (tile_of window w h depth compression).pixels ≡ w * h * depth
 unfolding tile_of tile_in
 pixels_length window w h depth compression =
-    by_cases (Whole (w * h * depth)) (eqb compression 0) _ _ (λ _. plain_length (take window_limit window) (w * h) depth)
+    cond_both (eqb compression 0) _ _ (Whole (w * h * depth)) (λ _. plain_length (take window_limit window) (w * h) depth)
     (λ _. encoded_length (take window_limit window) (w * h) depth)
 
 abbrev ZeroMarked : ℕ → Tile → Type 0
@@ -47,7 +47,7 @@ ZeroMarked size t = (t.mark ≡ 0 → ⊥) → t.pixels ≡ replicate size 0
 plain_zero : (ws : List ℕ) (n depth : ℕ) → ZeroMarked (n * depth) (plain_tile ws n depth)
 unfolding plain_tile
 plain_zero ws n depth =
-    by_cases (ZeroMarked (n * depth)) (leb (n * depth) (length ws)) _ _ (λ _ m. absurd (m refl)) (λ _ _. refl)
+    cond_both (leb (n * depth) (length ws)) _ _ (ZeroMarked (n * depth)) (λ _ m. absurd (m refl)) (λ _ _. refl)
 
 encoded_zero : (ws : List ℕ) (n depth : ℕ) → ZeroMarked (n * depth) (encoded_tile ws n depth)
 unfolding encoded_tile
@@ -56,7 +56,7 @@ encoded_zero ws n depth = λ m. simp (ne_eqb _ _ m)
 pub marked_zero : (window : List ℕ) (w h depth compression : ℕ) → ((tile_of window w h depth compression).mark ≡ 0 → ⊥) → (tile_of window w h depth compression).pixels ≡ replicate (w * h * depth) 0
 unfolding tile_of tile_in
 marked_zero window w h depth compression =
-    by_cases (ZeroMarked (w * h * depth)) (eqb compression 0) _ _ (λ _. plain_zero (take window_limit window) (w * h) depth)
+    cond_both (eqb compression 0) _ _ (ZeroMarked (w * h * depth)) (λ _. plain_zero (take window_limit window) (w * h) depth)
     (λ _. encoded_zero (take window_limit window) (w * h) depth)
 
 pub pixels_are_streams : (window : List ℕ) (w h depth m i : ℕ) → (tile_of window w h depth 1).mark ≡ 0 → m < depth → i < w * h → get_or (tile_of window w h depth 1).pixels (m + depth * i) 0 ≡ get_or (get_or (streams_at depth (take window_limit window) 0 (w * h)).planes m []) i 0

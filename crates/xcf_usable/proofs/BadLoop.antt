@@ -6,11 +6,13 @@ use mathlib.Core.Path.{◌≡◌, refl, sym, ◌∙◌}
 use mathlib.Core.List.{List}
 use mathlib.Core.Bool.{Bool, true, false, cond}
 use native.Mathlib.Omega.{arith}
+use borrow.Author.Tests.{ne_eqb}
+use Rattle.std.specs.Prelude.{Some, None}
 use Rattle.xcf_numbers.specs.Limit.{table_rows}
 use Rattle.xcf_table.specs.Table.{row_at}
 use Rattle.xcf_table.specs.declared.canvas.Canvas.{Canvas}
 use Rattle.xcf_usable.specs.declared.seen.Seen.{Seen}
-use Rattle.xcf_usable.specs.Usable.{seen_at, masked, usable_row, usable, bad_from, bad_row}
+use Rattle.xcf_usable.specs.Usable.{seen_at, masked, usable_row, usable, bad_from, bad_row, row_found}
 
 pub bad_next : (c : Canvas) (names table : List ℕ) (k : ℕ) → k < table_rows
     → bad_from c names table (table_rows - k) k ≡ cond (usable c names table k) (bad_from c names table (table_rows - (k + 1)) (k + 1)) k
@@ -40,12 +42,15 @@ module _ {c : Canvas} {names table : List ℕ} {k : ℕ} {s : Seen} (g : Left c 
       → b ≡ usable_row c names k s (row_at table k) (masked table k) → b ≡ true → next ≡ seen_at table (k + 1) → Left c names table (k + 1) next
   left_next {b} e ok next = record { few = omega arith; seen = next; rest = sym (rw ok at (tested b e)) }
 
-  pub left_bad : {b : Bool} → b ≡ usable_row c names k s (row_at table k) (masked table k) → b ≡ false → k ≡ bad_row c names table
-  left_bad {b} e bad = sym (rw bad at (tested b e))
+  pub left_bad : {b : Bool} → b ≡ usable_row c names k s (row_at table k) (masked table k) → b ≡ false → Some k ≡ row_found (bad_row c names table)
+  left_bad {b} e bad =
+      let there : bad_row c names table ≡ k = rw bad at (tested b e) in
+      rw (there, ne_eqb k table_rows (λ e. omega arith))
 
 pub left_over : {c : Canvas} {names table : List ℕ} {k : ℕ} {s : Seen}
-    → Left c names table k s → table_rows ≤ k → k ≡ bad_row c names table
+    → Left c names table k s → table_rows ≤ k → None ≡ row_found (bad_row c names table)
 unfolding bad_from
-left_over {k} g h =
-    let e : table_rows - k ≡ 0 = omega arith in
-    rw e at g.rest
+left_over {c} {names} {table} {k} g h =
+    let none : table_rows - k ≡ 0 = omega arith in
+    let end : bad_row c names table ≡ table_rows = sym (rw none at g.rest) ∙ omega arith in
+    rw end

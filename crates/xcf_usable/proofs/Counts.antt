@@ -5,10 +5,11 @@ use Prim.Native.Nat.{ℕ, zero, suc, ◌+◌, ◌≤◌, ◌<◌}
 use mathlib.Core.Path.{◌≡◌, refl}
 use mathlib.Core.List.{List}
 use mathlib.Core.Bool.{Bool, true, false, cond}
+use mir.Val.{bool_byte}
 use native.Mathlib.Numerals.{add-one}
 use native.Mathlib.Omega.{arith}
 use Rattle.xcf_table.specs.declared.Row.{Row}
-use Rattle.xcf_table.specs.Table.{row_at}
+use Rattle.xcf_table.specs.Table.{unused_row, row_at}
 use Rattle.xcf_usable.specs.declared.seen.Seen.{Seen}
 use Rattle.xcf_usable.specs.Usable.{is_layer, is_channel, is_unused, is_active_layer, is_active_channel, is_selection, count_before, row_before, seen_at}
 
@@ -16,6 +17,14 @@ pub before_next : (test : Row → Bool) (table : List ℕ) (k : ℕ)
     → count_before test table (k + 1) ≡ count_before test table k + cond (test (row_at table k)) 1 0
 unfolding count_before
 before_next test table k = rw add-one
+
+-- nothing is seen before row 0
+pub seen_none : (table : List ℕ) (s : Seen)
+    → (s.layers ≡ 0) × ((s.channels ≡ 0) × ((s.unused ≡ 0) × ((s.current ≡ 0) × ((s.active ≡ 0) × ((s.selections ≡ 0) × (s.row ≡ unused_row))))))
+    → s ≡ seen_at table 0
+unfolding seen_at count_before row_before
+seen_none table s (layers, (channels, (unused, (current, (active, (selections, row)))))) =
+    rw (layers, channels, unused, current, active, selections, row)
 
 -- what is seen behind a row
 abbrev seeing : Seen → Row → Seen
@@ -34,12 +43,16 @@ unfolding seen_at count_before row_before
 seen_next table k = rw add-one
 
 -- the counts made one by one
+pub byte_one : (b : Bool) → bool_byte b ≡ cond b 1 0
+byte_one true = refl
+byte_one false = refl
+
 pub seen_behind : (table : List ℕ) (k : ℕ) {s : Seen} {r : Row} {l c u n m o : ℕ} {layer channel selection : Bool}
     → s ≡ seen_at table k → r ≡ row_at table k
-    → l ≡ cond (is_layer r) 1 0 → c ≡ cond (is_channel r) 1 0 → u ≡ cond (is_unused r) 1 0
-    → layer ≡ is_active_layer r → n ≡ cond layer 1 0
-    → channel ≡ is_active_channel r → m ≡ cond channel 1 0
-    → selection ≡ is_selection r → o ≡ cond selection 1 0
+    → l ≡ bool_byte (is_layer r) → c ≡ bool_byte (is_channel r) → u ≡ bool_byte (is_unused r)
+    → layer ≡ is_active_layer r → n ≡ bool_byte layer
+    → channel ≡ is_active_channel r → m ≡ bool_byte channel
+    → selection ≡ is_selection r → o ≡ bool_byte selection
     → ◌≡◌ {A = Seen} (record {
       layers = s.layers + l;
       channels = s.channels + c;
@@ -49,7 +62,7 @@ pub seen_behind : (table : List ℕ) (k : ℕ) {s : Seen} {r : Row} {l c u n m o
       selections = s.selections + o;
       row = r;
     }) (seen_at table (k + 1))
-seen_behind table k es er el ec eu ela en ech em ese eo = rw (el, ec, eu, en, em, eo, ela, ech, ese, seen_next, ← es, er)
+seen_behind table k es er el ec eu ela en ech em ese eo = simp (el, ec, eu, en, em, eo, ela, ech, ese, byte_one, seen_next, ← es, er)
 
 pub one_most : (b : Bool) → cond b 1 0 ≤ 1
 one_most true = omega arith
@@ -59,6 +72,10 @@ pub before_most : (test : Row → Bool) (table : List ℕ) (k : ℕ) → count_b
 unfolding count_before
 before_most test table zero = omega arith
 before_most test table (suc k) = omega (arith, before_most test table k, one_most (test (row_at table k)))
+
+pub byte_most : (b : Bool) → bool_byte b ≤ 1
+byte_most true = omega arith
+byte_most false = omega arith
 
 -- a row that passes is counted behind it
 pub counted : (test : Row → Bool) (table : List ℕ) (k : ℕ) → test (row_at table k) ≡ true → 1 ≤ count_before test table (k + 1)

@@ -1,6 +1,5 @@
 pub mod Counts
 pub mod Zeros
-pub mod ZeroRow
 pub mod BadLoop
 pub mod AllUsable
 pub mod Each

@@ -1,5 +1,5 @@
 -- The rows that the writer takes: those that a reader could have given, less what it excepts.
-use Rattle.std.specs.Prelude.{ℕ, zero, suc, ◌+◌, ◌*◌, List, [], ◌∷◌, Bool, true, cond, not, ◌&&◌, ◌||◌, leb, ltb, eqb, length}
+use Rattle.std.specs.Prelude.{ℕ, zero, suc, ◌+◌, ◌*◌, List, [], ◌∷◌, Bool, true, cond, not, ◌&&◌, ◌||◌, Option, Some, None, leb, ltb, eqb, length}
 use Rattle.xcf_numbers.specs.Limit.{written_type_limit, full_opacity, mode_limit, layer_limit, channel_limit, name_limit, table_rows}
 use Rattle.xcf_numbers.specs.Kind
 use Rattle.xcf_numbers.specs.Flag
@@ -42,12 +42,17 @@ active r = flag_of r.flags Flag.active
 abbrev pub not_utf8 : Row → ℕ
 not_utf8 r = flag_of r.flags Flag.not_utf8
 
+-- flags that are visible, active, that of the name, and one more
+abbrev pub flags_ok : ℕ → ℕ → Bool
+flags_ok own flags =
+    eqb flags (flag_of flags Flag.visible + own * flag_of flags own + Flag.active * flag_of flags Flag.active + Flag.not_utf8 * flag_of flags Flag.not_utf8)
+
 -- no other flags than a layer has, or than a mask or channel has
 abbrev pub layer_flags_ok : Row → Bool
-layer_flags_ok r = eqb r.flags (visible r + Flag.apply * apply r + Flag.active * active r + Flag.not_utf8 * not_utf8 r)
+layer_flags_ok r = flags_ok Flag.apply r.flags
 
 abbrev pub channel_flags_ok : Row → Bool
-channel_flags_ok r = eqb r.flags (visible r + Flag.selection * selection r + Flag.active * active r + Flag.not_utf8 * not_utf8 r)
+channel_flags_ok r = flags_ok Flag.selection r.flags
 
 -- an active layer; an active mask or channel; the selection
 abbrev pub is_active_layer : Row → Bool
@@ -162,3 +167,7 @@ bad_from c names table (suc n) k = cond (usable c names table k) (bad_from c nam
 -- the lowest bad row, or the number of rows where all are usable
 unfoldable pub bad_row : Canvas → List ℕ → List ℕ → ℕ
 bad_row c names table = bad_from c names table table_rows 0
+
+-- what a search gives that names a row of the table, or the number of rows where it finds none
+abbrev pub row_found : ℕ → Option ℕ
+row_found k = cond (eqb k table_rows) None (Some k)

@@ -1,3 +1,2 @@
-pub mod Moves
-pub mod Loop
 pub mod Grammar
+pub mod Scalars

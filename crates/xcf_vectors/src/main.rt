@@ -3,7 +3,7 @@
 
 mod record;
 
-use record::{Record, RecordRead};
+use record::{Kind, Record, Records};
 use std::io;
 use xcf_encode::EncodeAnswer;
 use xcf_input::read_full;
@@ -15,23 +15,16 @@ const INPUT_SIZE: usize = 131072;
 const BUFFER_SIZE: usize = 20480;
 
 // The most records that are run.
-const RECORDS: u32 = 4096;
+const RECORDS: usize = 4096;
 
 // s = (s * 31 + b) % 65521 over the bytes.
 fn sum(lent: &[u8]) -> u64 {
-    let mut s: u64 = 0;
-    for b in lent {
-        s = step(s, *b);
-    }
-    s
+    lent.iter()
+        .fold(0, |s: u64, b| (s % 65521 * 31 + u64::from(*b)) % 65521)
 }
 
-fn step(s: u64, b: u8) -> u64 {
-    (s % 65521 * 31 + (b as u64)) % 65521
-}
-
-fn decode(rt: &HostRuntime, r: Record, window: &[u8], lent: &mut [u8]) -> io::Result<()> {
-    let a = xcf_tile::decode_tile(window, r.width, r.height, r.depth, r.compression, lent);
+fn decode(rt: &HostRuntime, r: Record, lent: &mut [u8]) -> io::Result<()> {
+    let a = xcf_tile::decode_tile(r.source, r.width, r.height, r.depth, r.compression, lent);
     println!(rt;
         "tile {} {} {} {} {} {}",
         a.number,
@@ -53,8 +46,8 @@ fn print_encoded(rt: &HostRuntime, name: &str, a: EncodeAnswer, lent: &[u8]) -> 
     )
 }
 
-fn encode(rt: &HostRuntime, r: Record, pixels: &[u8], lent: &mut [u8]) -> io::Result<()> {
-    let a = xcf_encode::encode_tile(pixels, r.width, r.height, r.depth, lent);
+fn encode(rt: &HostRuntime, r: Record, lent: &mut [u8]) -> io::Result<()> {
+    let a = xcf_encode::encode_tile(r.source, r.width, r.height, r.depth, lent);
     print_encoded(rt, "write", a, lent)
 }
 
@@ -64,43 +57,20 @@ fn encode_stream(rt: &HostRuntime, stream: &[u8], lent: &mut [u8]) -> io::Result
 }
 
 // One call on a buffer of 0xAA bytes.
-fn run(rt: &HostRuntime, r: Record, source: &[u8], lent: &mut [u8]) -> io::Result<()> {
+fn run(rt: &HostRuntime, r: Record, lent: &mut [u8]) -> io::Result<()> {
     lent.fill(0xaa);
     match r.kind {
-        0 => decode(rt, r, source, lent),
-        1 => encode(rt, r, source, lent),
-        _ => encode_stream(rt, source, lent),
+        Kind::Decode => decode(rt, r, lent),
+        Kind::Encode => encode(rt, r, lent),
+        Kind::EncodeStream => encode_stream(rt, r.source, lent),
     }
 }
 
-// The record's source and buffer, where there is room for both.
-fn run_record(rt: &HostRuntime, r: Record, input: &[u8], buffer: &mut [u8]) -> io::Result<()> {
-    let from = r.from;
-    let end = r.end;
-    let lent = r.lent;
-    if end < from {
-        return Ok(());
-    }
-    if input.len() < end {
-        return Ok(());
-    }
-    if buffer.len() < lent {
-        return Ok(());
-    }
-    run(rt, r, &input[from..end], &mut buffer[..lent])
-}
-
+// A record that asks for more than the buffer is passed over.
 fn run_all(rt: &HostRuntime, input: &[u8], buffer: &mut [u8]) -> io::Result<()> {
-    let mut at = 0;
-    for _ in 0..RECORDS {
-        match record::read(input, at) {
-            RecordRead::Next(r) => {
-                at = r.end;
-                run_record(rt, r, input, buffer)?;
-            }
-            RecordRead::End => {
-                return Ok(());
-            }
+    for r in Records::of(input).take(RECORDS) {
+        if let Some(lent) = buffer.get_mut(..r.lent) {
+            run(rt, r, lent)?;
         }
     }
     Ok(())

@@ -1,10 +1,8 @@
 pub mod Walks
 pub mod Straight
 pub mod Advances
-pub mod Resume
 pub mod Within
+pub mod Steps
 pub mod Loops
-pub mod Standing
 pub mod PointersLoop
-pub mod PointersGiven
 pub mod Tiles

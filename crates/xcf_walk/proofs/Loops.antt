@@ -1,67 +1,69 @@
--- A loop of turns under way, at a cursor: what is left of the loop gives what the whole gives. This holds at the start
--- (`going_start`), each turn keeps it (`going_turn`), and at the end the loop leads to the cursor (`going_over`).
+-- A loop of turns under way, at a cursor: what is left of the loop gives what the whole gives. This holds at the start (`loop_starts`), a
+-- turn that is followed by another keeps it (`loop_goes`), and the last turn gives the loop's value (`loop_ends`), as a refused one
+-- refuses the loop (`loop_stops`).
 -- Assumes nothing.
 use Prim.Native.Nat.{ℕ, zero, suc, ◌+◌, ◌-◌, ◌≤◌, ◌<◌}
 use mathlib.Core.Path.{◌≡◌, refl, sym, ◌∙◌}
-use mathlib.Core.List.{List}
-use mathlib.Core.Bool.{Bool, true, false, cond, true≢false, false≢true}
 use native.Mathlib.Omega.{arith}
 use lib.ListN.{length}
+use Rattle.std.specs.Prelude.{Result, Ok, Err}
+use Rattle.std.specs.Result.{IsErrAnd}
+use Rattle.xcf_numbers.specs.declared.reason.Refusal.{Refusal}
 use Rattle.xcf_walk.specs.declared.cursor.Cursor.{Cursor}
-use Rattle.xcf_walk.specs.Walk.{Walk, Turn, onward, turns, loop}
-use Rattle.xcf_walk.specs.Cursor.{outcome, resume, Leads, turn_of}
-use Rattle.xcf_walk.proofs.Resume.{resume_next, resume_length, ends}
+use Rattle.xcf_walk.specs.Walk.{Walk, run, Turn, more, last, onward, turns, loop}
+use Rattle.xcf_walk.specs.Cursor.{WalksBy}
+use Rattle.xcf_walk.proofs.Walks.{run_bind, run_length, run_done}
+use Rattle.xcf_walk.proofs.Advances.{Advances}
 
-module _ {S : Type 0} (body : S → Walk (Turn S S)) (f : List ℕ) (c₀ : Cursor) (s₀ : S) where
+module _ {S A : Type 0} (body : S → Walk (Turn S A)) (c₀ : Cursor) (s₀ : S) where
   -- turns are left that give the whole; they are more than the bytes left
   pub record Left (c : Cursor) (s : S) : Type 0 where
     pub spare : ℕ
-    pub gives : resume c₀ (loop body s₀) f ≡ resume c (turns (suc spare) body s) f
-    pub enough : length f < c.at + suc spare
+    pub gives : run (loop body s₀) c₀.file.now c₀.at ≡ run (turns (suc spare) body s) c.file.now c.at
+    pub enough : length c.file.now < c.at + suc spare
+    pub file : c.file.now ≡ c₀.file.now
 
-  -- the loop from c₀ and s₀ has come to c and s, and goes on or is over
-  pub record Going (again : Bool) (c : Cursor) (s : S) : Type 0 where
-    pub on : again ≡ true → Left c s
-    pub over : again ≡ false → outcome c s ≡ resume c₀ (loop body s₀) f
-
-pub going_start : {S : Type 0} {body : S → Walk (Turn S S)} {f : List ℕ} {c : Cursor} {s : S} → Going body f c s true c s
+pub loop_starts : {S A : Type 0} {body : S → Walk (Turn S A)} {c : Cursor} {s : S} → Left body c s c s
 unfolding loop
-going_start {body = body} {f = f} {c = c} {s = s} = record {
-  on = λ _. record { spare = length f; gives = sym (resume_length c f (λ n. turns (suc n) body s)); enough = omega arith };
-  over = λ e. absurd (true≢false e);
+loop_starts {body = body} {c = c} {s = s} = record {
+  spare = length c.file.now;
+  gives = run_length c.file.now c.at (λ n. turns (suc n) body s);
+  enough = omega arith;
+  file = refl;
 }
 
--- a turn that is followed by another has moved on in the file
-abbrev pub Moves : List ℕ → Bool → Cursor → Cursor → Type 0
-Moves f again c d = again ≡ true → (c.at < d.at) × (d.at ≤ length f)
-
-module _ {S : Type 0} {body : S → Walk (Turn S S)} {f : List ℕ} {c₀ : Cursor} {s₀ : S} {again : Bool} {c : Cursor} {s : S} (g : Going body f c₀ s₀ again c s) where
-  pub going_turn : {next : Bool} {d : Cursor} {t : S} → again ≡ true → Leads c (body s) f d (turn_of next t) → Moves f next c d → Going body f c₀ s₀ next d t
+module _ {S A : Type 0} {body : S → Walk (Turn S A)} {c₀ : Cursor} {s₀ : S} {c : Cursor} {s : S} (l : Left body c₀ s₀ c s) where
+  -- what one more turn gives, and what follows it
+  turned : {X : Type 0} {v : X → Turn S A} {x : X} {d : Cursor} → WalksBy v (body s) c (Ok x) d
+      → run (loop body s₀) c₀.file.now c₀.at ≡ run (onward (turns l.spare body) (v x)) d.file.now d.at
   unfolding turns
-  going_turn {next} {d} {t} e turn moves = go next moves (left.gives ∙ sym (resume_next (onward (turns left.spare body)) turn))
+  turned {d = d} t = l.gives ∙ run_bind (body s) (onward (turns l.spare body)) c.file.now c.at ∙ rw (t.gives, ← t.file) refl
+
+  pub loop_goes : {X : Type 0} {v : X → Turn S A} {x : X} {d : Cursor} {t : S} → WalksBy v (body s) c (Ok x) d → v x ≡ more t
+      → (c.at < d.at) × (d.at ≤ length c.file.now) → Left body c₀ s₀ d t
+  loop_goes {v = v} {x = x} {d = d} {t = t} turn e moves = go l.spare l.enough (rw e at (turned turn))
     where
-      left : Left body f c₀ s₀ c s
-      left = g.on e
+      go : (k : ℕ) → length c.file.now < c.at + suc k → run (loop body s₀) c₀.file.now c₀.at ≡ run (turns k body t) d.file.now d.at → Left body c₀ s₀ d t
+      go zero h g = absurd (omega (arith, moves))
+      go (suc k) h g = record { spare = k; gives = g; enough = rw turn.file (omega (arith, moves)); file = turn.file ∙ l.file }
 
-      go_on : (k : ℕ) → length f < c.at + suc k → (c.at < d.at) × (d.at ≤ length f) → resume c₀ (loop body s₀) f ≡ resume d (turns k body t) f → Left body f c₀ s₀ d t
-      go_on zero h m e = absurd (omega (arith, m))
-      go_on (suc k) h m e = record { spare = k; gives = e; enough = omega (arith, m) }
+  pub loop_ends : {X Y : Type 0} {v : X → Turn S A} {u : Y → A} {x : X} {d : Cursor} (y : Y) → WalksBy v (body s) c (Ok x) d → v x ≡ last (u y)
+      → WalksBy u (loop body s₀) c₀ (Ok y) d
+  loop_ends {u = u} {d = d} y turn e = record { gives = rw e at (turned turn) ∙ run_done d.file.now d.at (u y); file = turn.file ∙ l.file }
 
-      go : (n : Bool) → Moves f n c d → resume c₀ (loop body s₀) f ≡ resume d (onward (turns left.spare body) (turn_of n t)) f → Going body f c₀ s₀ n d t
-      go true m e = record { on = λ _. go_on left.spare left.enough (m refl) e; over = λ e. absurd (true≢false e) }
-      go false m e = record { on = λ e. absurd (false≢true e); over = λ _. ends.gives ∙ sym e }
+  pub loop_stops : {X Y : Type 0} {v : X → Turn S A} {u : Y → A} {x : Refusal} {d : Cursor} {r : Result Y Refusal} → WalksBy v (body s) c (Err x) d
+      → IsErrAnd r (λ y. y ≡ x) → WalksBy u (loop body s₀) c₀ r d
+  unfolding turns
+  loop_stops {r = Ok y} turn h = absurd h
+  loop_stops {r = Err y} turn h = record {
+    gives = l.gives ∙ run_bind (body s) (onward (turns l.spare body)) c.file.now c.at ∙ rw (turn.gives, h) refl;
+    file = turn.file ∙ l.file;
+  }
 
-  pub going_over : again ≡ false → Leads c₀ (loop body s₀) f c s
-  going_over e = record { gives = g.over e }
+-- a turn that passes over a byte has moved on in the file
+pub moved : {X A : Type 0} {v : X → A} {w : Walk A} {c d : Cursor} {x : X} → Advances w → WalksBy v w c (Ok x) d → (c.at < d.at) × (d.at ≤ length c.file.now)
+moved {v = v} {c = c} {d = d} {x = x} a t = a.passes c.file.now c.at (v x) d.at (sym t.gives)
 
--- the bytes that are left: a measure of the loop
-unfoldable pub bytes_left : List ℕ → Bool → Cursor → ℕ
-bytes_left f again c = cond again (suc (length f - c.at)) 0
-
-pub left_falls : (f : List ℕ) (again next : Bool) (c d : Cursor) → again ≡ true → Moves f next c d → bytes_left f next d < bytes_left f again c
-unfolding bytes_left
-left_falls f again next c d e moves = rw e (go next moves)
-  where
-    go : (n : Bool) → Moves f n c d → bytes_left f n d < suc (length f - c.at)
-    go true m = omega (arith, m refl)
-    go false m = omega arith
+-- and fewer bytes are left
+pub left_falls : {X A : Type 0} {v : X → A} {w : Walk A} {c d : Cursor} {x : X} → Advances w → WalksBy v w c (Ok x) d → length d.file.now - d.at < length c.file.now - c.at
+left_falls a t = let m = moved a t in rw t.file (omega (arith, m))

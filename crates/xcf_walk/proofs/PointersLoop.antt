@@ -1,101 +1,109 @@
--- Pointers closed by 0: what a turn of their loop gives, where its number is 0 (`turn_closed`) and where it is a pointer
--- (`turn_read`). `PointersGoing` holds at the loop's head (`going_start`), each turn keeps it (`going_next`, `going_last`), and at the
--- end it says what the walk gives (`given_live`, `given_none`).
+-- Pointers closed by 0, one after the other: what is left of the list gives what the whole gives, the pointers read before in front
+-- (`PointersLeft`). It holds at the start (`pointers_start`), each pointer keeps it (`pointers_go`), and a 0 ends the list
+-- (`pointers_end`), as a refusal does (`pointers_stop`).
 -- Assumes nothing.
-use Prim.Native.Nat.{ℕ, zero, suc, ◌+◌, ◌-◌, ◌≤◌}
+use Prim.Native.Nat.{ℕ, zero, suc, ◌+◌, ◌-◌, ◌≤◌, ◌<◌}
 use mathlib.Core.Path.{◌≡◌, refl, sym, ◌∙◌, ap}
 use mathlib.Core.List.{List, [], ◌∷◌, ◌++◌, append-nil, append_assoc}
-use mathlib.Core.Bool.{Bool, true, false, true≢false, false≢true}
+use mathlib.Core.Bool.{Bool, true, false, cond}
 use native.Mathlib.Nat.{sub-zero}
 use native.Mathlib.Omega.{arith}
-use borrow.Author.Tests.{ltb-true, lt-ltb, eqb-true, eqb-false, eq-eqb, ne_eqb}
+use borrow.Author.Tests.{lt-ltb}
 use lib.Dec.{ltb, eqb}
-use lib.ListN.{take, set, replicate}
-use Rattle.xcf_numbers.specs.Limit.{layer_limit}
-use Rattle.xcf_numbers.specs.Refusal
+use lib.ListN.{length, length-append}
+use Rattle.std.specs.Prelude.{Option, Some, None, Result, Ok, Err}
+use Rattle.std.specs.Result.{IsErrAnd}
+use Rattle.xcf_numbers.specs.Refusal as Number
+use Rattle.xcf_numbers.specs.declared.reason.Refusal.{Refusal}
 use Rattle.xcf_walk.specs.declared.cursor.Cursor.{Cursor}
+use Rattle.xcf_walk.specs.Walk.{Outcome, got, refused, Walk, done, ◌>>=◌, run, must}
 use Rattle.xcf_walk.specs.Fields.{number}
-use Rattle.xcf_walk.specs.Cursor.{checked, Leads, Reads}
-use Rattle.xcf_walk.specs.Pointers.{pointers, PointersGiven}
-use Rattle.xcf_walk.specs.Parts.{Another, PointerRead}
-use Rattle.xcf_walk.proofs.Resume.{then, then_here, ends, by_check, reads_live, reads_none}
-use Rattle.xcf_walk.proofs.Within.{read_is_live, check_keeps, check_live}
-use Rattle.xcf_walk.proofs.Standing.{Standing, none_stands, one_taken, one_stands}
+use Rattle.xcf_walk.specs.Cursor.{WalksBy, Walks}
+use Rattle.xcf_walk.specs.Pointers.{pointers}
+use Rattle.xcf_walk.specs.Parts.{next_pointer}
+use Rattle.xcf_walk.proofs.Walks.{after, run_bind, run_here}
 
-module _ (size : ℕ) {c d : Cursor} {f : List ℕ} {v : ℕ} (r : Reads c (number size) f 0 d v) where
-  none_left : {next : Cursor} {test : Bool} → test ≡ eqb v 0 → next ≡ checked d test Refusal.too_many c.at → Leads c (pointers size 0) f next []
-  unfolding pointers
-  none_left t e = then_here _ _ (λ _. refl) (then _ r.leads (then _ (by_check d _ _ _ (omega arith) t e) ends))
+-- how the list goes on behind its next pointer; where none is allowed there is none
+abbrev behind : ℕ → Option ℕ → ℕ → Walk (List ℕ)
+behind size None left = done []
+behind size (Some p) zero = done []
+behind size (Some p) (suc left) = pointers size left >>= λ ps. done (p ∷ ps)
 
-  -- a 0 ends the walk, and so does a refusal, beside which stands 0
-  closed : v ≡ 0 → (left : ℕ) → Leads c (pointers size left) f d []
-  unfolding pointers
-  closed e zero = none_left (sym (eq-eqb _ _ e)) (sym (check_live d true _ _ refl refl))
-  closed e (suc left) = then _ r.leads (rw (eq-eqb _ _ e) ends)
+by_next : (size left : ℕ) (f : List ℕ) (at : ℕ) → run (pointers size left) f at ≡ after (run (next_pointer size left) f at) (λ o q. run (behind size o left) f q)
+unfolding run must pointers next_pointer
+by_next size zero f at =
+    run_here f at _ ∙ run_bind (number size) _ f at ∙ go (run (number size) f at)
+    ∙ sym (ap (λ x. after x (λ o q. run (behind size o 0) f q)) (run_here f at _ ∙ run_bind (number size) _ f at))
+  where
+    test : (p q : ℕ) (b : Bool) → run (must b Number.too_many at >>= λ _. done []) f q
+        ≡ after (run (cond b (done None) (must false Number.too_many at >>= λ _. done (Some p))) f q) (λ o q. run (behind size o 0) f q)
+    test p q true = refl
+    test p q false = refl
 
-  pub turn_closed : (left : ℕ) {p : ℕ} → v ≡ 0 → PointerRead size c f left false d p
-  turn_closed left e = record { another = λ t. absurd (false≢true t); over = λ _. closed e left }
+    go : (x : Outcome ℕ) → after x (λ p q. run (must (eqb p 0) Number.too_many at >>= λ _. done []) f q)
+        ≡ after (after x (λ p q. run (cond (eqb p 0) (done None) (must false Number.too_many at >>= λ _. done (Some p))) f q)) (λ o q. run (behind size o 0) f q)
+    go (got p q) = test p q (eqb p 0)
+    go (refused n p) = refl
+by_next size (suc left) f at =
+    run_bind (number size) _ f at ∙ go (run (number size) f at)
+    ∙ sym (ap (λ x. after x (λ o q. run (behind size o (suc left)) f q)) (run_here f at _ ∙ run_bind (number size) _ f at))
+  where
+    test : (p q : ℕ) (b : Bool) → run (cond b (done []) (pointers size left >>= λ ps. done (p ∷ ps))) f q
+        ≡ after (run (cond b (done None) (must (ltb 0 (suc left)) Number.too_many at >>= λ _. done (Some p))) f q) (λ o q. run (behind size o (suc left)) f q)
+    test p q true = refl
+    test p q false = rw (lt-ltb 0 (suc left) (omega arith)) refl
 
-  module _ {next : Cursor} (pointer : v ≡ 0 → ⊥) where
-    -- a pointer is refused where none is left
-    too_many_lem : (left : ℕ) → next ≡ checked d (ltb 0 left) Refusal.too_many c.at → (next.number ≡ 0 → ⊥) → Leads c (pointers size left) f next []
-    too_many_lem zero e h = none_left (sym (ne_eqb _ _ pointer)) e
-    too_many_lem (suc left) e h = absurd (h (ap (λ x. x.number) (check_live d _ _ _ e (lt-ltb 0 (suc left) (omega arith))) ∙ read_is_live r pointer))
+    go : (x : Outcome ℕ) → after x (λ p q. run (cond (eqb p 0) (done []) (pointers size left >>= λ ps. done (p ∷ ps))) f q)
+        ≡ after (after x (λ p q. run (cond (eqb p 0) (done None) (must (ltb 0 (suc left)) Number.too_many at >>= λ _. done (Some p))) f q)) (λ o q. run (behind size o (suc left)) f q)
+    go (got p q) = test p q (eqb p 0)
+    go (refused n p) = refl
 
-    pub turn_read : (left : ℕ) → next ≡ checked d (ltb 0 left) Refusal.too_many c.at → PointerRead size c f left (eqb next.number 0) next v
-    turn_read left e = record {
-      another = λ t.
-          let kept = check_keeps d _ _ _ e (omega arith) (eqb-true _ _ t) in
-          record { room = ltb-true _ _ kept.1; read = rw kept.0 r.leads; nonzero = pointer };
-      over = λ t. too_many_lem left e (eqb-false _ _ t);
-    }
+after_done : {A : Type 0} (x : Outcome A) → after x (λ a q. got a q) ≡ x
+after_done (got a q) = refl
+after_done (refused n p) = refl
 
--- of at most so many pointers from c on count stand in the list, and the loop goes on or is over: where what is left leads, the whole leads
--- with them in front
-pub record PointersGoing (size : ℕ) (f : List ℕ) (c : Cursor) (most : ℕ) (again : Bool) (next : Cursor) (count : ℕ) (list : List ℕ) : Type 0 where
-  pub inside : count ≤ most
-  pub stands : Standing count list
-  pub on : again ≡ true → {d : Cursor} {ps : List ℕ} → Leads next (pointers size (most - count)) f d ps → Leads c (pointers size most) f d (take count list ++ ps)
-  pub over : again ≡ false → Leads c (pointers size most) f next (take count list)
+-- of at most so many pointers from a cursor on the list is read
+pub record PointersLeft (size most : ℕ) (c₀ c : Cursor) (list : List ℕ) : Type 0 where
+  pub inside : length list ≤ most
+  pub gives : run (pointers size most) c₀.file.now c₀.at ≡ after (run (pointers size (most - length list)) c.file.now c.at) (λ ps q. got (list ++ ps) q)
+  pub file : c.file.now ≡ c₀.file.now
 
-pub going_start : {size : ℕ} {f : List ℕ} {c : Cursor} {most : ℕ} → PointersGoing size f c most true c 0 (replicate layer_limit 0)
-going_start = record { inside = omega arith; stands = none_stands; on = λ _ l. rw sub-zero at l; over = λ e. absurd (true≢false e) }
+pub pointers_start : {size most : ℕ} {c : Cursor} {list : List ℕ} → list ≡ [] → PointersLeft size most c c list
+pointers_start {size} {most} {c} e = record { inside = rw e (omega arith); gives = rw (e, sub-zero) (sym (after_done (run (pointers size most) c.file.now c.at))); file = refl }
 
-module _ {size : ℕ} {f : List ℕ} {c : Cursor} {most : ℕ} {again : Bool} {next : Cursor} {count : ℕ} {list : List ℕ}
-    (g : PointersGoing size f c most again next count list) where
-  module _ (goes : again ≡ true) {more : Bool} {d : Cursor} {p : ℕ} (turn : PointerRead size next f (most - count) more d p) where
-    pub going_next : most ≤ layer_limit → more ≡ true → PointersGoing size f c most more d (count + 1) (set list count p)
-    unfolding pointers
-    going_next few e = record {
-      inside = omega (arith, a.room);
-      stands = one_stands g.stands room p;
-      on = λ _ l.
-          rw (one_taken g.stands room p, append_assoc (take count list) (p ∷ []))
-          (g.on goes (rw one (then _ a.read (rw (ne_eqb _ _ a.nonzero) (then _ l ends)))));
-      over = λ z. absurd (true≢false (sym e ∙ z));
-    }
-      where
-        a : Another size next f (most - count) d p
-        a = turn.another e
+module _ {size most : ℕ} {c₀ c : Cursor} {list : List ℕ} (l : PointersLeft size most c₀ c list) (left : ℕ) (k : left + length list ≡ most) where
+  -- the list's next pointer, and what follows it
+  after_next : run (pointers size most) c₀.file.now c₀.at
+      ≡ after (after (run (next_pointer size left) c.file.now c.at) (λ o q. run (behind size o left) c.file.now q)) (λ ps q. got (list ++ ps) q)
+  after_next =
+      let same : most - length list ≡ left = omega (arith, k) in
+      l.gives ∙ rw (same, by_next size left c.file.now c.at) refl
 
-        room : suc count ≤ layer_limit
-        room = omega (arith, a.room)
+  turned : {d : Cursor} {o : Option ℕ} → Walks (next_pointer size left) c (Ok o) d
+      → run (pointers size most) c₀.file.now c₀.at ≡ after (run (behind size o left) d.file.now d.at) (λ ps q. got (list ++ ps) q)
+  turned {d} t = after_next ∙ rw (t.gives, ← t.file) refl
 
-        one : most - count ≡ suc (most - (count + 1))
-        one = omega (arith, a.room)
+  pub pointers_go : {d : Cursor} {p : ℕ} {next : List ℕ} → 0 < left → Walks (next_pointer size left) c (Ok (Some p)) d → next ≡ list ++ p ∷ [] → PointersLeft size most c₀ d next
+  unfolding run
+  pointers_go {d} {p} {next} room t e =
+      let long : length next ≡ length list + 1 = rw e (length-append list (p ∷ [])) in
+      let one : left ≡ suc (most - length next) = omega (arith, room, k, long) in
+      record {
+        inside = omega (arith, room, k, long);
+        gives = rw one at (turned t) ∙ ap (λ x. after x (λ ps q. got (list ++ ps) q)) (run_bind (pointers size (most - length next)) _ d.file.now d.at) ∙ go (run (pointers size (most - length next)) d.file.now d.at);
+        file = t.file ∙ l.file;
+      }
+    where
+      go : (x : Outcome (List ℕ)) → after (after x (λ ps q. run (done (p ∷ ps)) d.file.now q)) (λ ps q. got (list ++ ps) q) ≡ after x (λ ps q. got (next ++ ps) q)
+      go (got ps q) = ap (λ x. got x q) (sym (rw e (append_assoc list (p ∷ []) ps)))
+      go (refused n q) = refl
 
-    pub going_last : more ≡ false → PointersGoing size f c most more d count list
-    going_last e = record {
-      inside = g.inside;
-      stands = g.stands;
-      on = λ z. absurd (false≢true (sym e ∙ z));
-      over = λ _. rw append-nil at (g.on goes (turn.over e));
-    }
+  pub pointers_end : {X : Type 0} {v : X → List ℕ} {d : Cursor} (y : X) → Walks (next_pointer size left) c (Ok None) d → v y ≡ list
+      → WalksBy v (pointers size most) c₀ (Ok y) d
+  unfolding run
+  pointers_end {d = d} y t e = record { gives = turned t ∙ ap (λ x. got x d.at) (append-nil list ∙ sym e); file = t.file ∙ l.file }
 
-  -- what was read counts where the cursor is live
-  module _ (stops : again ≡ false) where
-    pub given_live : next.number ≡ 0 → PointersGiven size most c f next count list
-    given_live h = record { reads = reads_live h (g.over stops); zeros = g.stands.zeros; few = g.inside }
-
-    pub given_none : (next.number ≡ 0 → ⊥) → PointersGiven size most c f next 0 (replicate layer_limit 0)
-    given_none h = record { reads = reads_none h (g.over stops); zeros = none_stands.zeros; few = omega arith }
+  pub pointers_stop : {X : Type 0} {v : X → List ℕ} {d : Cursor} {x : Refusal} {r : Result X Refusal} → Walks (next_pointer size left) c (Err x) d → IsErrAnd r (λ y. y ≡ x)
+      → WalksBy v (pointers size most) c₀ r d
+  pointers_stop {r = Ok y} t h = absurd h
+  pointers_stop {r = Err y} t h = record { gives = after_next ∙ rw (t.gives, h) refl; file = t.file ∙ l.file }

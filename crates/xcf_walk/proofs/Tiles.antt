@@ -1,91 +1,60 @@
--- The pointers of tiles: those that rise are passed over (`rising_left`), and the one behind them decides (`left_closed`): where
--- none is left it closes the list, and else it is not right.
+-- The pointers of tiles: those that rise are passed over (`past_rising`), and the number behind them decides (`tiles_end`): where none is
+-- left it closes the list, and else it is not right.
 -- Assumes nothing.
 use Prim.Native.Nat.{ℕ, zero, suc, ◌+◌, ◌-◌, ◌*◌, ◌≤◌, ◌<◌}
 use mathlib.Core.Path.{◌≡◌, refl, sym, ◌∙◌, ap}
 use mathlib.Core.List.{List}
 use mathlib.Core.Logic.{◌⊎◌, inl, inr}
-use mathlib.Core.Bool.{Bool, true, false, cond, ◌&&◌, false≢true, and-eq-true_iff}
+use mathlib.Core.Bool.{Bool, true, false, ◌&&◌, and-eq-true_iff}
 use native.Mathlib.Nat.{add-zero, sub-zero, mul-zero}
 use native.Mathlib.Omega.{arith}
 use borrow.Author.Tests.{le-leb, leb-true, eqb-true, eqb-false}
 use lib.Dec.{leb, ltb, eqb}
 use lib.ListN.{length}
+use Rattle.std.specs.Prelude.{Result, Ok, Err}
+use Rattle.std.specs.Result.{IsErrAnd}
+use Rattle.std.proofs.lemmas.Bool.{cond_both}
 use Rattle.xcf_numbers.specs.Refusal
-use Rattle.xcf_walk.specs.declared.cursor.Cursor.{Cursor}
+use Rattle.xcf_numbers.specs.declared.reason.Refusal.{Refusal as Refused}
 use Rattle.xcf_store.specs.declared.rising.Rising.{Rising}
-use Rattle.xcf_walk.specs.Walk.{Walk, must}
-use Rattle.xcf_walk.specs.Fields.{number}
 use Rattle.xcf_store.specs.Pointer.{number_at}
 use Rattle.xcf_store.specs.Rising.{rises, rising}
-use Rattle.xcf_walk.specs.Cursor.{Leads, outcome, resume, checked, jumped, skipped}
-use Rattle.xcf_walk.proofs.Resume.{then, then_here, then_length, ends, by_check, by_number, is_live, is_refused, live_same}
-use Rattle.xcf_walk.proofs.Within.{live_before, number_within, check_keeps}
 use Rattle.xcf_store.proofs.Risen.{Risen, risen}
-use Rattle.xcf_laws.proofs.Cases.{by_cases}
+use Rattle.xcf_walk.specs.declared.cursor.Cursor.{Cursor}
+use Rattle.xcf_walk.specs.Walk.{got, refused, run, bytes, must}
+use Rattle.xcf_walk.specs.Fields.{number}
 use Rattle.xcf_walk.specs.Pointers.{tiles}
-use Rattle.xcf_walk.specs.Parts.{TilesLeft}
+use Rattle.xcf_walk.specs.Cursor.{outcome, Walks, Gives}
+use Rattle.xcf_walk.proofs.Walks.{run_bind, run_here, run_length}
+use Rattle.xcf_walk.proofs.Within.{got_number}
 
--- a refusal stays what it is
-stays : {A : Type 0} {c : Cursor} {w : Walk A} {f : List ℕ} {a : A} → (c.number ≡ 0 → ⊥) → Leads c w f c a
-unfolding outcome resume
-stays {c = c} h = record { gives = is_refused c _ _ h ∙ sym (is_refused c _ _ h) }
+-- a number that lies in the file
+number_there : (size : ℕ) (f : List ℕ) (at : ℕ) → at + size ≤ length f → run (number size) f at ≡ got (number_at size f at) (at + size)
+unfolding run number bytes
+number_there size f at fits = rw (le-leb _ _ fits) refl
 
--- a check of a refusal keeps it, so that its test counts only where the cursor is live
-check_to : (c : Cursor) {d : Cursor} {f : List ℕ} {s : Bool} (t : Bool) (n p : ℕ) → 1 ≤ n → (c.number ≡ 0 → s ≡ t) → d ≡ checked c s n p → Leads c (must t n p) f d tt
-unfolding checked
-check_to c t n p h same e = by_check c t n p h refl (e ∙ live_same c _ _ _ (λ z. ap (λ x. cond x c (record { at = p; number = n })) (same z)))
-
-abbrev at_place : ℕ → Cursor
-at_place p = record { at = p; number = 0 }
-
--- a pointer that lies in the file
-number_there : (size : ℕ) (f : List ℕ) (at : ℕ) → at + size ≤ length f → Leads (at_place at) (number size) f (at_place (at + size)) (number_at size f at)
-unfolding skipped
-number_there size f at fits = by_number size (rw (le-leb _ _ fits))
-
-must_hold : {c : Cursor} {f : List ℕ} (t : Bool) (n p : ℕ) → t ≡ true → Leads c (must t n p) f c tt
-unfolding must
-must_hold t n p e = rw e ends
-
--- what is left behind the pointers that rise leads where the whole does
+-- what is left behind the pointers that rise gives what the whole gives
 abbrev Past : ℕ → List ℕ → ℕ → ℕ → ℕ → Rising → Type 0
-Past size f n at before r = (d : Cursor) → Leads (at_place (at + size * r.count)) (tiles size (n - r.count) r.last) f d tt → Leads (at_place at) (tiles size n before) f d tt
+Past size f n at before r = run (tiles size n before) f at ≡ run (tiles size (n - r.count) r.last) f (at + size * r.count)
 
 none_past : (size : ℕ) (f : List ℕ) (n at before : ℕ) → Past size f n at before (record { count = 0; last = before })
-none_past size f n at before d l = rw (mul-zero, add-zero, sub-zero) at l
+none_past size f n at before = rw (mul-zero, add-zero, sub-zero) refl
 
 one_past : (size : ℕ) (f : List ℕ) (n at before : ℕ) (r : Rising) → rises size f at before ≡ true → Past size f n (at + size) (number_at size f at) r
     → Past size f (suc n) at before (record { count = r.count + 1; last = r.last })
-unfolding tiles
-one_past size f n at before r e rest d l =
+unfolding tiles must
+one_past size f n at before r e rest =
     let rise = (and-eq-true_iff (leb (at + size) (length f)) _).0 e in
     let place : at + size * (r.count + 1) ≡ at + size + size * r.count = omega arith in
     let left : suc n - (r.count + 1) ≡ n - r.count = omega arith in
-    then_here _ _ (λ _. refl) (then_length _ (then _ (number_there size f at (leb-true _ _ rise.0)) (then _ (must_hold _ _ _ rise.1) (rest d (rw (place, left) at l)))))
+    run_here f at _ ∙ run_length f at _ ∙ run_bind (number size) _ f at
+    ∙ rw (number_there size f at (leb-true _ _ rise.0), rise.1, place, left) rest
 
 past_rising : (size : ℕ) (f : List ℕ) (n at before : ℕ) → Past size f n at before (rising size f at n before)
 unfolding rising
 past_rising size f zero at before = none_past size f zero at before
 past_rising size f (suc n) at before =
-    by_cases (λ r. Past size f (suc n) at before r) (rises size f at before) _ _ (λ e. one_past size f n at before _ e (past_rising size f n (at + size) (number_at size f at))) (λ _. none_past size f (suc n) at before)
-
--- the pointers passed over from a refused cursor, and from a live one
-pub none_left : {size : ℕ} {f : List ℕ} {c : Cursor} {n : ℕ} → (c.number ≡ 0 → ⊥) → TilesLeft size f c n c 0 0
-none_left h = record { few = omega arith; whole = λ l. rw sub-zero at l; stops = λ z. absurd (h z) }
-
-pub rising_left : (size : ℕ) (f : List ℕ) (c : Cursor) (n : ℕ) {r : Rising} {next : Cursor} → c.number ≡ 0 → r ≡ rising size f c.at n 0
-    → next ≡ jumped c (c.at + size * r.count) → TilesLeft size f c n next r.last r.count
-unfolding jumped
-rising_left size f c n {r} {next} live e jumps =
-    let there : next ≡ at_place (c.at + size * r.count) = jumps ∙ is_live c _ _ live in
-    let up : Risen size f c.at n r = rw e (risen size f c.at n 0) in
-    let here : c ≡ at_place c.at = ap (λ k. record { at = c.at; number = k }) live in
-    record {
-      few = up.few;
-      whole = λ l. rw here (past_rising size f n c.at 0 _ (rw (there, e) at l));
-      stops = λ _ less. rw there (up.stops less);
-    }
+    cond_both (rises size f at before) _ _ (λ r. Past size f (suc n) at before r) (λ e. one_past size f n at before _ e (past_rising size f n (at + size) (number_at size f at))) (λ _. none_past size f (suc n) at before)
 
 -- the pointers that rise end in the file, or where they begin
 pub rising_ends : (size : ℕ) (f : List ℕ) (at n : ℕ) {r : Rising} → r ≡ rising size f at n 0 → (at + size * r.count ≤ length f) ⊎ (at + size * r.count ≡ at)
@@ -95,33 +64,51 @@ rising_ends size f at n {r} e = go r.count (let up : Risen size f at n r = rw e 
     go zero h = inr (omega arith)
     go (suc k) h = inl (h (omega arith))
 
--- the pointer behind those passed over
-module _ {size : ℕ} {f : List ℕ} {c : Cursor} {n : ℕ} {next : Cursor} {last count : ℕ} (l : TilesLeft size f c n next last count)
-    {d e : Cursor} {p : ℕ} (read : Leads next (number size) f d p) where
-  closed : count ≡ n → e ≡ checked d (eqb p 0) Refusal.bad_tile_pointer next.at → Leads c (tiles size n 0) f e tt
-  unfolding tiles
-  closed h k =
-      let none : n - count ≡ 0 = omega arith in
-      l.whole (rw none (then_here _ _ (λ _. refl) (then _ read (by_check _ _ _ _ (omega arith) refl k))))
+-- a number that is refused refuses the list, however many pointers are left
+number_refused : (size : ℕ) (f : List ℕ) (at k last : ℕ) {n p : ℕ} → run (number size) f at ≡ refused n p → run (tiles size k last) f at ≡ refused n p
+unfolding tiles
+number_refused size f at zero last h = run_here f at _ ∙ run_bind (number size) _ f at ∙ rw h refl
+number_refused size f at (suc k) last h = run_here f at _ ∙ run_length f at _ ∙ run_bind (number size) _ f at ∙ rw h refl
 
-  not_right : count < n → e ≡ checked d false Refusal.bad_tile_pointer next.at → Leads c (tiles size n 0) f e tt
-  unfolding tiles
-  not_right h k =
-      let one : n - count ≡ suc (n - (count + 1)) = omega arith in
-      l.whole (rw one (then_here _ _ (λ _. refl) (then_length _ (then _ read (then _ (check_to d _ _ _ (omega arith) fails k) (stays over))))))
-    where
-      over : e.number ≡ 0 → ⊥
-      over z = false≢true (check_keeps d false _ _ k (omega arith) z).1
+-- the number behind those passed over
+module _ (size n : ℕ) (c : Cursor) {next : Cursor} {r : Rising} (e : r ≡ rising size c.file.now c.at n 0) (s : next ≡ record { file = c.file; at = c.at + size * r.count }) where
+  past : run (tiles size n 0) c.file.now c.at ≡ run (tiles size (n - r.count) r.last) next.file.now next.at
+  past = rw (s, e) (past_rising size c.file.now n c.at 0)
 
-      fails : d.number ≡ 0 → false ≡ (ltb last p && ltb p (length f))
-      fails z =
-          let w = number_within size read z in
-          let no = l.stops (live_before read z) h in
-          sym (rw (le-leb _ _ (let e : next.at + size ≤ length f = omega (arith, w.0, w.1) in e), ← w.2) at no)
+  same_file : next.file.now ≡ c.file.now
+  same_file = ap (λ x. x.file.now) s
 
-  pub left_closed : e ≡ checked d (eqb count n && eqb p 0) Refusal.bad_tile_pointer next.at → Leads c (tiles size n 0) f e tt
-  left_closed k = go (eqb count n) refl k
-    where
-      go : (t : Bool) → eqb count n ≡ t → e ≡ checked d (t && eqb p 0) Refusal.bad_tile_pointer next.at → Leads c (tiles size n 0) f e tt
-      go true h k = closed (eqb-true _ _ h) k
-      go false h k = not_right (let less : count < n = omega (arith, l.few, eqb-false count n h) in less) k
+  pub tiles_stop : {d : Cursor} {x : Refused} {res : Result (Unit {0}) Refused} → Walks (number size) next (Err x) d → IsErrAnd res (λ y. y ≡ x) → Walks (tiles size n 0) c res d
+  tiles_stop {res = Ok y} t h = absurd h
+  tiles_stop {res = Err y} t h = record { gives = past ∙ number_refused size next.file.now next.at (n - r.count) r.last (rw h t.gives); file = t.file ∙ same_file }
+
+  module _ {d : Cursor} {p : ℕ} (res : Result (Unit {0}) Refused) (t : Walks (number size) next (Ok p) d) where
+    closed : n - r.count ≡ 0 → Gives (must (eqb p 0) Refusal.bad_tile_pointer next.at) res → run (tiles size (n - r.count) r.last) next.file.now next.at ≡ outcome (λ x. x) res d.at
+    unfolding tiles
+    closed none g = rw none (run_here next.file.now next.at _ ∙ run_bind (number size) _ next.file.now next.at ∙ rw t.gives (g next.file.now d.at))
+
+    not_right : (k : ℕ) → n - r.count ≡ suc k → (ltb r.last p && ltb p (length next.file.now)) ≡ false → Gives (must false Refusal.bad_tile_pointer next.at) res
+        → run (tiles size (n - r.count) r.last) next.file.now next.at ≡ outcome (λ x. x) res d.at
+    unfolding run tiles must
+    not_right k one misses g =
+        rw one (run_here next.file.now next.at _ ∙ run_length next.file.now next.at _ ∙ run_bind (number size) _ next.file.now next.at ∙ rw (t.gives, misses) (g next.file.now d.at))
+
+    not_risen : r.count < n → (ltb r.last p && ltb p (length next.file.now)) ≡ false
+    not_risen less =
+        let up : Risen size c.file.now c.at n r = rw e (risen size c.file.now c.at n 0) in
+        let w = got_number size next.file.now next.at (sym t.gives) in
+        let last : rises size next.file.now next.at r.last ≡ false = rw s (up.stops less) in
+        rw (le-leb _ _ w.1, ← w.2) at last
+
+    pub tiles_end : Gives (must (eqb r.count n && eqb p 0) Refusal.bad_tile_pointer (c.at + size * r.count)) res → Walks (tiles size n 0) c res d
+    tiles_end g = record { gives = past ∙ go (eqb r.count n) refl (rw (← ap (λ x. x.at) s) at g); file = t.file ∙ same_file }
+      where
+        few : r.count ≤ n
+        few = let up : Risen size c.file.now c.at n r = rw e (risen size c.file.now c.at n 0) in up.few
+
+        go : (b : Bool) → eqb r.count n ≡ b → Gives (must (b && eqb p 0) Refusal.bad_tile_pointer next.at) res
+            → run (tiles size (n - r.count) r.last) next.file.now next.at ≡ outcome (λ x. x) res d.at
+        go true h k = let same : r.count ≡ n = eqb-true _ _ h in closed (omega arith) k
+        go false h k =
+            let less : r.count < n = omega (arith, few, eqb-false r.count n h) in
+            not_right (n - (r.count + 1)) (omega arith) (not_risen less) k

@@ -9,7 +9,7 @@ use borrow.Author.Tests.{leb-true}
 use lib.Dec.{leb}
 use lib.ListN.{length}
 use Rattle.xcf_numbers.specs.Refusal
-use Rattle.xcf_walk.specs.Walk.{Outcome, got, refused, Walk, done, refuse, pass, ask, move, ◌>>=◌, run, bytes, here, file_length, must}
+use Rattle.xcf_walk.specs.Walk.{Outcome, got, refused, Walk, done, refuse, pass, ask, move, ◌>>=◌, run, bytes, here, file_length, jump, must}
 use Rattle.xcf_store.specs.Word.{part}
 
 -- what follows an outcome
@@ -62,6 +62,19 @@ module _ {A : Type 0} (f : List ℕ) (at : ℕ) where
   pub run_length : (k : ℕ → Walk A) → run (file_length >>= k) f at ≡ run (k (length f)) f at
   unfolding run file_length
   run_length k = refl
+
+-- the place, by itself
+pub ran_here : (f : List ℕ) (at : ℕ) → run here f at ≡ got at at
+unfolding run here
+ran_here f at = refl
+
+-- a jump
+pub ran_jump : (f : List ℕ) (at p : ℕ) → run (jump p) f at ≡ got tt p
+unfolding run jump
+ran_jump f at p = refl
+
+-- how a do block goes on, step by step
+pub ruleset steps = (run_bind, run_done, ran_here, ran_jump)
 
 -- what a step gives where it is taken
 module _ (f : List ℕ) (at : ℕ) {q : ℕ} where

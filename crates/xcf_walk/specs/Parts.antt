@@ -1,25 +1,32 @@
 -- Parts of private contracts.
-use Rattle.std.specs.Prelude.{ℕ, ◌-◌, ◌≤◌, ◌<◌, ◌≡◌, List, [], Bool, true, false}
-use Rattle.xcf_store.specs.Rising.{rises}
-use Rattle.xcf_walk.specs.declared.cursor.Cursor.{Cursor}
+use Rattle.std.specs.Prelude.{ℕ, ◌-◌, List, Option, Some, None, Bool, cond, ltb, eqb, length, get_or, take}
+use Rattle.xcf_numbers.specs.Refusal
+use Rattle.xcf_property.specs.declared.Properties.{Properties}
+use Rattle.xcf_property.specs.Property.{put}
+use Rattle.xcf_walk.specs.declared.property.Property.{Property}
+use Rattle.xcf_walk.specs.Walk.{Walk, done, here, must, Turn, more, last, ◌>>=◌, ◌>>◌}
 use Rattle.xcf_walk.specs.Fields.{number}
-use Rattle.xcf_walk.specs.Cursor.{Leads}
-use Rattle.xcf_walk.specs.Pointers.{pointers, tiles}
 
--- the number at c is a pointer, and one of so many that are left
-pub record Another (size : ℕ) (c : Cursor) (f : List ℕ) (left : ℕ) (d : Cursor) (p : ℕ) : Type 0 where
-  pub room : 1 ≤ left
-  pub read : Leads c (number size) f d p
-  pub nonzero : p ≡ 0 → ⊥
+-- the last of some bytes is zero; of no bytes it counts as zero
+abbrev pub ends_in_zero : List ℕ → Bool
+ends_in_zero b = eqb (get_or b (length b - 1) 0) 0
 
--- a turn over pointers: another is read, or the walk over them ends, at a 0 or with a refusal
-pub record PointerRead (size : ℕ) (c : Cursor) (f : List ℕ) (left : ℕ) (again : Bool) (d : Cursor) (p : ℕ) : Type 0 where
-  pub another : again ≡ true → Another size c f left d p
-  pub over : again ≡ false → Leads c (pointers size left) f d []
+-- the bytes before it
+abbrev pub before_last : List ℕ → List ℕ
+before_last b = take (length b - 1) b
 
--- of n tiles count pointers of `size` bytes are right, the last of them before next: where what is left leads, the whole leads; and where the
--- cursor is live and pointers are left, the next one is not right
-pub record TilesLeft (size : ℕ) (f : List ℕ) (c : Cursor) (n : ℕ) (next : Cursor) (last count : ℕ) : Type 0 where
-  pub few : count ≤ n
-  pub whole : {d : Cursor} → Leads next (tiles size (n - count) last) f d tt → Leads c (tiles size n 0) f d tt
-  pub stops : next.number ≡ 0 → count < n → rises size f next.at last ≡ false
+-- the next of a list's pointers, where so many more are allowed, or none at the 0 that closes the list
+unfoldable pub next_pointer : ℕ → ℕ → Walk (Option ℕ)
+next_pointer size left = do
+  at ← here
+  p ← number size
+  cond (eqb p 0)
+      (done None)
+      (do
+        must (ltb 0 left) Refusal.too_many at
+        done (Some p))
+
+-- a property is followed by another, and none ends the list
+abbrev pub turn_of : ℕ → Properties → Option Property → Turn Properties Properties
+turn_of list p (Some x) = more (put list x.kind x.content p)
+turn_of list p None = last p

@@ -1,11 +1,8 @@
 -- Lists of pointers, each of `size` bytes.
-use Rattle.std.specs.Prelude.{ℕ, zero, suc, ◌-◌, ◌≤◌, ◌≡◌, List, [], ◌∷◌, ◌++◌, cond, ◌&&◌, ltb, eqb, take, replicate}
-use Rattle.xcf_numbers.specs.Limit.{layer_limit}
+use Rattle.std.specs.Prelude.{ℕ, zero, suc, List, [], ◌∷◌, cond, ◌&&◌, ltb, eqb}
 use Rattle.xcf_numbers.specs.Refusal
-use Rattle.xcf_walk.specs.declared.cursor.Cursor.{Cursor}
 use Rattle.xcf_walk.specs.Walk.{Walk, done, here, file_length, must, ◌>>=◌, ◌>>◌}
 use Rattle.xcf_walk.specs.Fields.{number}
-use Rattle.xcf_walk.specs.Cursor.{Reads}
 
 -- pointers closed by 0, at most so many; one more is refused at its place
 unfoldable pub pointers : ℕ → ℕ → Walk (List ℕ)
@@ -34,9 +31,3 @@ tiles size (suc n) before = do
   p ← number size
   must (ltb before p && ltb p end) Refusal.bad_tile_pointer at
   tiles size n p
-
--- the pointers read stand at the list's start, and zeros behind them; beside a refusal there are none
-pub record PointersGiven (size most : ℕ) (c : Cursor) (f : List ℕ) (d : Cursor) (count : ℕ) (list : List ℕ) : Type 0 where
-  pub reads : Reads c (pointers size most) f [] d (take count list)
-  pub zeros : list ≡ take count list ++ replicate (layer_limit - count) 0
-  pub few : count ≤ most

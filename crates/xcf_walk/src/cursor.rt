@@ -1,33 +1,22 @@
-// A cursor by value: its methods read a word or a string, and hand the moved cursor back.
-ghost use Rattle.std.specs.Prelude.{◌≡◌, ◌-◌, get_or, eqb};
-ghost use Rattle.xcf_store.specs.Word.{part};
-ghost use Rattle.xcf_store.specs.Pointer.{PointerSize};
+// A cursor: each of its methods reads a field and moves on behind it, or is refused.
+ghost use Rattle.std.specs.Prelude.{◌≡◌, length, true, false, IfOk, OnOk, MatchOption};
+ghost use Rattle.xcf_numbers.specs.Reason.{number_of};
+ghost use Rattle.xcf_store.specs.Width.{bytes_of};
+ghost use Rattle.xcf_walk.specs.Walk.{bytes, must};
 ghost use Rattle.xcf_walk.specs.Fields.{number, word, string};
-ghost use Rattle.xcf_walk.specs.Cursor.{live, checked, jumped, skipped, Reads, no_name};
+ghost use Rattle.xcf_walk.specs.Cursor.{WalksBy, Walks, Gives};
+ghost use Rattle.xcf_walk.specs.Parts.{ends_in_zero, before_last};
 
-use xcf_numbers::refusal;
-use xcf_store::pointer::number_at;
+use xcf_numbers::reason::{Reason, Refusal};
+use xcf_store::pointer::{Width, number_at};
 use xcf_store::word::word_at;
 use xcf_utf8::well_formed;
 
-// A place in a file while the number is 0; else the first fault's number and place, which every further step keeps.
+// A place in a file. How wide pointers are stands beside it: a file's first fields are read before that is known.
 #[derive(Clone, Copy)]
-pub struct Cursor {
+pub struct Cursor<'a> {
+    pub file: &'a [u8],
     pub at: usize,
-    pub number: u32,
-}
-
-#[derive(Clone, Copy)]
-pub struct WordRead {
-    pub value: u32,
-    pub cursor: Cursor,
-}
-
-// A number as wide as a place, as pointers are.
-#[derive(Clone, Copy)]
-pub struct NumberRead {
-    pub value: usize,
-    pub cursor: Cursor,
 }
 
 // The place of a name's bytes, their number, and whether they are well-formed UTF-8.
@@ -38,160 +27,91 @@ pub struct Name {
     pub utf8: bool,
 }
 
-#[derive(Clone, Copy)]
-pub struct NameRead {
-    pub name: Name,
-    pub cursor: Cursor,
-}
-
-// Whether the last of n bytes is zero; of no bytes, and past the file's end, it counts as zero.
-fn last_is_zero(file: &[u8], at: usize, n: usize) -> bool
-    ensures { result ≡ eqb (get_or (part file.now at n) (n - 1) 0) 0 }
+// Refused with this reason and place unless the test holds.
+#[tactic(auto, unfolding(crate::specs::Walk::run, crate::specs::Walk::must))]
+pub fn require(test: bool, reason: Reason, place: usize) -> Result<(), Refusal>
+    ensures gives { Gives (must test (number_of reason) place) result }
+    ensures holds { OnOk result (test ≡ true) }
 {
-    if n == 0 {
-        return true;
+    if test {
+        Ok(())
+    } else {
+        Err(Refusal { reason, place })
     }
-    let last = n - 1;
-    if file.len() <= at {
-        return true;
-    }
-    if file.len() - at <= last {
-        return true;
-    }
-    file[at + last] == 0
 }
 
-fn less_one(n: usize) -> usize
-    ensures { result ≡ n - 1 }
+// The bytes before the zero that is the last of them; of no bytes the last counts as zero.
+fn before_zero(bytes: &[u8]) -> Option<&[u8]>
+    ensures { MatchOption result (ends_in_zero bytes.now ≡ false) (λ b. (ends_in_zero bytes.now ≡ true) × (b.now ≡ before_last bytes.now)) }
 {
-    if n == 0 { 0 } else { n - 1 }
+    match bytes {
+        [] => Some(bytes),
+        [name @ .., 0] => Some(name),
+        _ => None,
+    }
 }
 
-// The walk from a place on.
-pub fn start(at: usize) -> Cursor
-    ensures { result ≡ record { at = at; number = 0 } }
-{
-    Cursor { at, number: 0 }
-}
-
-impl Cursor {
-    // The place, or 0 after a refusal.
-    pub fn place(self) -> usize
-        ensures { result ≡ live self self.at 0 }
+impl<'a> Cursor<'a> {
+    // Moves to another place of the file.
+    pub fn jump(&mut self, to: usize)
+        ensures { self.new ≡ record { file = self.old.file; at = to } }
     {
-        if self.number == 0 { self.at } else { 0 }
+        self.at = to;
     }
 
-    // Refused with this number and place unless the test holds. A number of 0 would leave the cursor live.
-    pub fn check(self, test: bool, number: u32, place: usize) -> Cursor
-        ensures { result ≡ checked self test number place }
+    // Passes over n bytes, and hands them out.
+    #[tactic(auto, unfolding(crate::specs::Walk::run, crate::specs::Walk::bytes))]
+    pub fn bytes(&mut self, n: usize) -> Result<&'a [u8], Refusal>
+        ensures walks { WalksBy (λ b. b.now) (bytes n) self.old result self.new }
+        ensures length { IfOk result (λ b. length b.now ≡ n) }
     {
-        if self.number != 0 {
-            return self;
-        }
-        if test {
-            return self;
-        }
-        Cursor { at: place, number }
-    }
-
-    pub fn jump(self, to: usize) -> Cursor
-        ensures { result ≡ jumped self to }
-    {
-        if self.number != 0 {
-            return self;
-        }
-        Cursor { at: to, number: 0 }
-    }
-
-    // Passes over n bytes.
-    pub fn skip(self, file: &[u8], n: usize) -> Cursor
-        ensures { result ≡ skipped self file.now n }
-    {
-        if self.number != 0 {
-            return self;
-        }
         let at = self.at;
-        if file.len() < at {
-            return Cursor {
-                at,
-                number: refusal::PAST_END,
-            };
+        if self.file.len() < at || self.file.len() - at < n {
+            return Err(Refusal {
+                reason: Reason::PastEnd,
+                place: at,
+            });
         }
-        if file.len() - at < n {
-            return Cursor {
-                at,
-                number: refusal::PAST_END,
-            };
-        }
-        Cursor {
-            at: at + n,
-            number: 0,
-        }
+        self.at = at + n;
+        Ok(&self.file[at..at + n])
     }
 
-    // Beside a refusal the value is 0.
-    pub fn word(self, file: &[u8]) -> WordRead
-        ensures { Reads self word file.now 0 result.cursor result.value }
+    #[tactic(auto, using(crate::proofs::Walks::steps), unfolding(crate::specs::Fields::word, crate::specs::Fields::number))]
+    pub fn word(&mut self) -> Result<u32, Refusal>
+        ensures { Walks word self.old result self.new }
     {
-        let next = self.skip(file, 4);
-        if next.number != 0 {
-            return WordRead {
-                value: 0,
-                cursor: next,
-            };
-        }
-        WordRead {
-            value: word_at(file, self.at),
-            cursor: next,
-        }
+        let bytes = self.bytes(4)?;
+        Ok(word_at(bytes, 0))
     }
 
-    // A pointer of `size` bytes; beside a refusal it is 0.
-    pub fn pointer(self, file: &[u8], size: usize) -> NumberRead
-        requires { PointerSize size }
-        ensures { Reads self (number size) file.now 0 result.cursor result.value }
+    #[tactic(auto, using(crate::proofs::Walks::steps), unfolding(crate::specs::Fields::number))]
+    pub fn pointer(&mut self, width: Width) -> Result<usize, Refusal>
+        ensures { Walks (number (bytes_of width)) self.old result self.new }
     {
-        let next = self.skip(file, size);
-        if next.number != 0 {
-            return NumberRead {
-                value: 0,
-                cursor: next,
-            };
-        }
-        NumberRead {
-            value: number_at(file, self.at, size),
-            cursor: next,
-        }
+        let size = width.bytes();
+        let bytes = self.bytes(size)?;
+        Ok(number_at(bytes, 0, width))
     }
 
-    pub fn string(self, file: &[u8]) -> NameRead
-        ensures { Reads self string file.now no_name result.cursor result.name }
+    // A length word and a name with the zero that ends it; the bytes of the name are taken well-formed or not.
+    #[tactic(auto, using(crate::proofs::Walks::steps), unfolding(crate::specs::Fields::string))]
+    pub fn string(&mut self) -> Result<Name, Refusal>
+        ensures { Walks string self.old result self.new }
     {
-        let n = self.word(file);
-        let place = n.cursor.at;
-        let size = n.value as usize;
-        let end = n.cursor.skip(file, size);
-        let ended = last_is_zero(file, place, size);
-        let next = end.check(ended, refusal::UNENDED_STRING, self.at);
-        if next.number != 0 {
-            return NameRead {
-                name: Name {
-                    place: 0,
-                    length: 0,
-                    utf8: true,
-                },
-                cursor: next,
-            };
-        }
-        let length = less_one(size);
-        NameRead {
-            name: Name {
-                place,
-                length,
-                utf8: well_formed(&file[place..place + length]),
-            },
-            cursor: next,
-        }
+        let start = self.at;
+        let size = self.word()? as usize;
+        let place = self.at;
+        let bytes = self.bytes(size)?;
+        let Some(name) = before_zero(bytes) else {
+            return Err(Refusal {
+                reason: Reason::UnendedString,
+                place: start,
+            });
+        };
+        Ok(Name {
+            place,
+            length: name.len(),
+            utf8: well_formed(name),
+        })
     }
 }

@@ -2,5 +2,5 @@
 #![tactic(auto)]
 
 pub mod cursor;
-mod pointers;
+pub mod pointers;
 mod property;

@@ -1,22 +1,18 @@
-// Property lists: one reader and one loop for the image's, a layer's, a mask's and a channel's. A pointer has `size` bytes.
-ghost use Rattle.std.specs.Prelude.{◌≡◌, ◌≤◌, ◌<◌, true, length};
+// Property lists: one reader and one loop for the image's, a layer's, a mask's and a channel's.
+ghost use Rattle.std.specs.Prelude.{◌≡◌};
+ghost use Rattle.xcf_property.specs.List.{list_number};
 ghost use Rattle.xcf_walk.specs.Property.{payload, colour_map, content, property, property_turn, properties};
-ghost use Rattle.xcf_property.specs.Property.{no_content, no_properties};
-ghost use Rattle.xcf_walk.specs.Cursor.{Leads, Reads, no_property, turn_of};
+ghost use Rattle.xcf_walk.specs.Cursor.{WalksBy, Walks};
+ghost use Rattle.xcf_walk.specs.Parts.{turn_of};
 
-use crate::cursor::Cursor;
+use crate::cursor::{Cursor, require};
 use xcf_numbers::limit::COLOUR_LIMIT;
-use xcf_numbers::{property_type, refusal};
+use xcf_numbers::property_type;
+use xcf_numbers::reason::{Reason, Refusal};
 use xcf_property::{
-    Content, Properties, allowed, content_of, is_colour_map, is_floating, lacks_map, length_ok,
-    map_length_ok,
+    Content, ListKind, Properties, allowed, content_of, is_colour_map, is_floating, lacks_map,
+    length_ok, map_length_ok,
 };
-
-#[derive(Clone, Copy)]
-pub struct ContentRead {
-    pub content: Content,
-    pub cursor: Cursor,
-}
 
 // A property: its type, the place of its type word, the place of its payload, what its length word says, and its content.
 #[derive(Clone, Copy)]
@@ -28,177 +24,111 @@ pub struct Property {
     pub content: Content,
 }
 
-#[derive(Clone, Copy)]
-pub struct PropertyRead {
-    pub property: Property,
-    pub cursor: Cursor,
-}
-
-#[derive(Clone, Copy)]
-pub struct PropertiesRead {
-    pub properties: Properties,
-    pub cursor: Cursor,
-}
-
-// The list after one more property, and whether another follows.
-#[derive(Clone, Copy)]
-struct PropertyTurn {
-    properties: Properties,
-    again: bool,
-    cursor: Cursor,
-}
-
-impl Cursor {
-    // Here and below, at is the place of the length word.
-    fn payload(self, file: &[u8], size: usize, kind: u32, at: usize, n: u32) -> ContentRead
-        ensures { Reads self (payload size kind at n) file.now no_content result.cursor result.content }
+impl<'a> Cursor<'a> {
+    // A payload whose length its type allows. Here and below, at is the place of the length word, and n what it says.
+    #[tactic(auto, using(crate::proofs::Walks::steps), unfolding(crate::specs::Property::payload))]
+    fn payload(&mut self, size: usize, kind: u32, at: usize, n: u32) -> Result<Content, Refusal>
+        ensures { Walks (payload size kind at n) self.old result self.new }
     {
-        let right = self.check(length_ok(kind, n, size), refusal::BAD_LENGTH, at);
-        let length = n as usize;
-        let next = right.skip(file, length);
-        if next.number != 0 {
-            return ContentRead {
-                content: Content {
-                    first: 0,
-                    second: 0,
-                },
-                cursor: next,
-            };
-        }
-        ContentRead {
-            content: content_of(file, right.at, length),
-            cursor: next,
-        }
+        let right = length_ok(kind, n, size);
+        require(right, Reason::BadLength, at)?;
+        let bytes = self.bytes(n as usize)?;
+        Ok(content_of(bytes, 0, bytes.len()))
     }
 
-    fn colour_map(self, file: &[u8], at: usize, n: u32) -> ContentRead
-        ensures { Reads self (colour_map at n) file.now no_content result.cursor result.content }
+    // The image's colour map; a map whose length word says too little still has three bytes for each colour.
+    #[tactic(auto, using(crate::proofs::Walks::steps), unfolding(crate::specs::Property::colour_map))]
+    fn colour_map(&mut self, at: usize, n: u32) -> Result<Content, Refusal>
+        ensures { Walks (colour_map at n) self.old result self.new }
     {
-        let long = self.check(4 <= n, refusal::BAD_LENGTH, at);
-        let count = long.word(file);
-        let few = count
-            .cursor
-            .check(count.value <= COLOUR_LIMIT, refusal::BAD_CONTENT, long.at);
-        let right = few.check(map_length_ok(count.value, n), refusal::BAD_LENGTH, at);
-        let size = 3 * (count.value as usize);
-        let next = right.skip(file, size);
-        if next.number != 0 {
-            return ContentRead {
-                content: Content {
-                    first: 0,
-                    second: 0,
-                },
-                cursor: next,
-            };
-        }
-        ContentRead {
-            content: Content {
-                first: count.value,
-                second: 0,
-            },
-            cursor: next,
-        }
+        require(4 <= n, Reason::BadLength, at)?;
+        let start = self.at;
+        let count = self.word()?;
+        require(count <= COLOUR_LIMIT, Reason::BadContent, start)?;
+        require(map_length_ok(count, n), Reason::BadLength, at)?;
+        self.bytes(3 * count as usize)?;
+        Ok(Content {
+            first: count,
+            second: 0,
+        })
     }
 
+    #[tactic(auto, unfolding(crate::specs::Property::content))]
     fn content(
-        self,
-        file: &[u8],
+        &mut self,
         size: usize,
-        list: u32,
+        list: ListKind,
         kind: u32,
         at: usize,
         n: u32,
-    ) -> ContentRead
-        ensures { Reads self (content size list kind at n) file.now no_content result.cursor result.content }
+    ) -> Result<Content, Refusal>
+        ensures { Walks (content size (list_number list) kind at n) self.old result self.new }
     {
         if is_colour_map(list, kind) {
-            self.colour_map(file, at, n)
+            self.colour_map(at, n)
         } else {
-            self.payload(file, size, kind, at, n)
+            self.payload(size, kind, at, n)
         }
     }
 
     // Type, length and payload; the list says whose list it is.
-    pub fn property(self, file: &[u8], size: usize, list: u32) -> PropertyRead
-        ensures { Reads self (property size list) file.now no_property result.cursor result.property }
+    #[tactic(auto, using(crate::proofs::Walks::steps), unfolding(crate::specs::Property::property))]
+    pub fn property(&mut self, size: usize, list: ListKind) -> Result<Property, Refusal>
+        ensures { Walks (property size (list_number list)) self.old result self.new }
     {
-        let kind = self.word(file);
-        let n = kind.cursor.word(file);
-        let content = n
-            .cursor
-            .content(file, size, list, kind.value, kind.cursor.at, n.value);
-        let next = content.cursor;
-        if next.number != 0 {
-            return PropertyRead {
-                property: Property {
-                    kind: 0,
-                    start: 0,
-                    place: 0,
-                    length: 0,
-                    content: Content {
-                        first: 0,
-                        second: 0,
-                    },
-                },
-                cursor: next,
-            };
-        }
-        let values = content.content;
-        PropertyRead {
-            property: Property {
-                kind: kind.value,
-                start: self.at,
-                place: n.cursor.at,
-                length: n.value as usize,
-                content: values,
-            },
-            cursor: next,
-        }
+        let start = self.at;
+        let kind = self.word()?;
+        let at = self.at;
+        let n = self.word()?;
+        let place = self.at;
+        let content = self.content(size, list, kind, at, n)?;
+        Ok(Property {
+            kind,
+            start,
+            place,
+            length: n as usize,
+            content,
+        })
     }
 
-    fn property_turn(self, file: &[u8], size: usize, list: u32, p: Properties) -> PropertyTurn
-        ensures leads { Leads self (property_turn size list p) file.now result.cursor (turn_of result.again result.properties) }
-        ensures at_lt_at { result.again ≡ true → (self.at < result.cursor.at) × (result.cursor.at ≤ length file.now) }
+    // The next property of a list that says p so far, or none at its end.
+    #[tactic(auto, using(crate::proofs::Walks::steps), unfolding(crate::specs::Property::property_turn))]
+    fn next_property(
+        &mut self,
+        size: usize,
+        list: ListKind,
+        p: Properties,
+    ) -> Result<Option<Property>, Refusal>
+        ensures { WalksBy (turn_of (list_number list) p) (property_turn size (list_number list) p) self.old result self.new }
     {
-        let read = self.property(file, size, list);
-        let x = read.property;
-        let fixed = read
-            .cursor
-            .check(!is_floating(list, x.kind), refusal::FLOATING, x.start);
-        let mapped = fixed.check(!lacks_map(x.kind, p), refusal::BAD_CONTENT, x.start);
-        let next = mapped.check(
+        let x = self.property(size, list)?;
+        require(!is_floating(list, x.kind), Reason::Floating, x.start)?;
+        require(!lacks_map(x.kind, p), Reason::BadContent, x.start)?;
+        require(
             allowed(list, x.kind, x.content.first),
-            refusal::BAD_CONTENT,
+            Reason::BadContent,
             x.place,
-        );
-        let content = x.content;
-        let properties = p.put(list, x.kind, content);
-        PropertyTurn {
-            properties,
-            again: next.number == 0 && x.kind != property_type::END,
-            cursor: next,
+        )?;
+        if x.kind == property_type::END {
+            Ok(None)
+        } else {
+            Ok(Some(x))
         }
     }
 
     // A whole list; unmapped is 1 for an indexed image, whose list must hold a colour map.
-    pub fn properties(self, file: &[u8], size: usize, list: u32, unmapped: u32) -> PropertiesRead
-        ensures { Reads self (properties size list unmapped) file.now no_properties result.cursor result.properties }
+    pub fn properties(
+        &mut self,
+        size: usize,
+        list: ListKind,
+        unmapped: u32,
+    ) -> Result<Properties, Refusal>
+        ensures { Walks (properties size (list_number list) unmapped) self.old result self.new }
     {
-        let mut cursor = self;
         let mut p = Properties::defaults(list, unmapped);
-        let mut again = true;
-        while again {
-            let turn = cursor.property_turn(file, size, list, p);
-            cursor = turn.cursor;
-            p = turn.properties;
-            again = turn.again;
+        while let Some(x) = self.next_property(size, list, p)? {
+            p = p.put(list, x.kind, x.content);
         }
-        if cursor.number != 0 {
-            p = Properties::none();
-        }
-        PropertiesRead {
-            properties: p,
-            cursor,
-        }
+        Ok(p)
     }
 }

@@ -2,9 +2,9 @@
 -- induction over the walk.
 -- Assumes nothing.
 use Prim.Native.Nat.{ℕ, ◌+◌}
-use mathlib.Core.Path.{◌≡◌, refl, sym, ◌∙◌}
+use mathlib.Core.Path.{◌≡◌, sym, ◌∙◌}
 use mathlib.Core.List.{List}
-use mathlib.Core.Bool.{Bool, true, false, ◌&&◌, ◌||◌, true≢false}
+use mathlib.Core.Bool.{Bool, true, false, ◌&&◌, ◌||◌, or-true, true≢false}
 use mathlib.Core.Logic.{⊎_elim}
 use borrow.Author.Tests.{le-leb, lt-ltb}
 use lib.Dec.{leb, ltb}
@@ -19,17 +19,13 @@ passes (pass n h) f at i = leb (at + n) (length f) && ((leb at i && ltb i (at + 
 passes (ask h) f at i = passes (h at (length f)) f at i
 passes (move p w) f at i = passes w f p i
 
-or-true : (a b : Bool) → b ≡ true → (a || b) ≡ true
-or-true true b e = refl
-or-true false b e = e
-
 passed_passes : {A : Type 0} (w : Walk A) (f : List ℕ) (at i : ℕ) → PassedOver w f at i → passes w f at i ≡ true
 unfolding passes PassedOver
 passed_passes (done a) f at i p = absurd p
 passed_passes (refuse n q) f at i p = absurd p
 passed_passes (pass n h) f at i p =
     rw (le-leb _ _ p.0)
-    (⊎_elim (λ here. rw (le-leb _ _ here.0, lt-ltb _ _ here.1)) (λ later. or-true (leb at i && ltb i (at + n)) _ (passed_passes (h (part f at n)) f (at + n) i later)) p.1)
+    (⊎_elim (λ here. rw (le-leb _ _ here.0, lt-ltb _ _ here.1)) (λ later. rw (passed_passes (h (part f at n)) f (at + n) i later, or-true)) p.1)
 passed_passes (ask h) f at i p = passed_passes (h at (length f)) f at i p
 passed_passes (move q w) f at i p = passed_passes w f q i p
 

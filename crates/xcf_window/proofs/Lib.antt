@@ -1,3 +1,4 @@
+pub mod Ranges
 pub mod TilePointers
 pub mod Cuts
 pub mod OneTile

@@ -10,6 +10,7 @@ use native.Mathlib.Omega.{arith}
 use borrow.Author.Tests.{ltb-true}
 use lib.Dec.{ltb}
 use lib.ListN.{length}
+use Rattle.std.proofs.lemmas.Bool.{cond_both}
 use Rattle.xcf_numbers.specs.Refusal
 use Rattle.xcf_walk.specs.Walk.{got, run, must}
 use Rattle.xcf_store.specs.Pointer.{number_at}
@@ -17,7 +18,6 @@ use Rattle.xcf_walk.specs.Fields.{number}
 use Rattle.xcf_walk.proofs.Walks.{parted, run_here, run_length, got_must}
 use Rattle.xcf_walk.proofs.Within.{got_number}
 use Rattle.xcf_table.specs.declared.Row.{Row}
-use Rattle.xcf_laws.proofs.Cases.{by_cases}
 use Rattle.xcf_walk.specs.Pointers.{tiles}
 use Rattle.xcf_window.specs.Window.{pointer_at, window_end}
 
@@ -83,7 +83,7 @@ pub window_inside : (size : ℕ) (f : List ℕ) (r : Row) {q : ℕ} → got tt q
     → (t : ℕ) → t < r.count → (pointer_at size f r t < window_end size f r t) × (window_end size f r t ≤ length f)
 unfolding pointer_at window_end
 window_inside size f r e t below =
-    by_cases (λ (end : ℕ). (number_at size f (r.pointers + size * t) < end) × (end ≤ length f)) (ltb (t + 1) r.count) _ _
+    cond_both (ltb (t + 1) r.count) _ _ (λ (end : ℕ). (number_at size f (r.pointers + size * t) < end) × (end ≤ length f))
     (λ more.
     let h = ltb-true (t + 1) r.count more in
     (tiles_rise size r.count 0 f r.pointers e t h, omega (arith, tiles_below size r.count 0 f r.pointers e (t + 1) h)))

@@ -1,5 +1,5 @@
 // One tile of a row: whether the row is usable, the tile's window, its pixels and its mark.
 #![tactic(auto)]
 
-pub mod check;
-pub mod tile;
+pub mod drawable;
+mod tile;

@@ -57,14 +57,11 @@ unfolding places_from
 places_length [] p = refl
 places_length (d ∷ ds) p = ap suc (places_length ds (p + drawable_size d))
 
-pub places_long : (table names pixels old places : List ℕ) (n start : ℕ) → length old ≡ places_size
-    → places ≡ sets old 0 (places_from (drawables_from table n 0 names pixels) start) → length places ≡ places_size
-places_long table names pixels old places n start long e = ap length e ∙ length-sets old 0 (places_from (drawables_from table n 0 names pixels) start) ∙ long
-
-pub places_stored : (table names pixels old places : List ℕ) (n start : ℕ) → n ≤ table_rows → length old ≡ places_size
+pub places_stored : (table names pixels old places : List ℕ) (n start : ℕ) → n ≤ table_rows → length places ≡ places_size
     → places ≡ sets old 0 (places_from (drawables_from table n 0 names pixels) start) → Placed places 0 (drawables_from table n 0 names pixels) start
 places_stored table names pixels old places n start few long e =
     let ds = drawables_from table n 0 names pixels in
+    let same : length places ≡ length old = ap length e ∙ length-sets old 0 (places_from ds start) in
     let l : length (places_from ds start) ≤ length old = rw (places_length ds start, rows_length) (omega arith) in
     record { same = rw (e, sets-eq (places_from ds start) old 0 (omega arith)) (take-append_seam (places_from ds start) _) }
 
@@ -79,6 +76,11 @@ module _ (table names pixels : List ℕ) (n : ℕ) (c : Canvas) where
 
   pub image_there : (places : List ℕ) → length (image_of c (rows_from table n 0) places) ≡ image_size c ds
   image_there places = image_same c (rows_from table n 0) places ∙ sym start_is
+
+  -- and behind it the drawables begin
+  pub behind_image : (places : List ℕ) {start : ℕ} {old : List ℕ} {q : ℕ} {new : List ℕ} → start ≡ length (image_of c (rows_from table n 0) [])
+      → Put old 0 (image_of c (rows_from table n 0) places) q new → q ≡ start
+  behind_image places e p = omega (arith, p.behind, image_there places, start_is, e)
 
 -- drawables end where their bytes do
 bytes_end : (ds : List Drawable) (p : ℕ) → end_of ds p ≡ p + length (drawables_bytes ds p)

@@ -3,3 +3,4 @@ pub mod Refusals
 pub mod FileLaws
 pub mod Accepted
 pub mod FileFits
+pub mod Reasons

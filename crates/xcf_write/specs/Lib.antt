@@ -1,3 +1,4 @@
 pub mod File
 pub mod Answer
 pub mod Parts
+pub mod Result

@@ -1,60 +1,88 @@
 // What is refused before the file is measured.
-ghost use Rattle.std.specs.Prelude.{◌≡◌};
+ghost use Rattle.std.specs.Prelude.{◌≡◌, length, IfOk};
 ghost use Rattle.xcf_write.specs.Answer.{rows_refusal, input_refusal};
+ghost use Rattle.xcf_write.specs.Result.{refusal_of};
+ghost use Rattle.xcf_write.specs.Parts.{Taken};
 
-use crate::{WriteAnswer, answered};
-use xcf_body::{pixels_size, used_rows};
-use xcf_numbers::limit::{TABLE_ROWS, TABLE_SIZE};
-use xcf_numbers::{base, refusal};
+use xcf_body::{UsedRows, pixels_size, used_rows};
+use xcf_numbers::base;
+use xcf_numbers::limit::TABLE_SIZE;
+use xcf_numbers::reason::{Reason, Refusal};
 use xcf_table::canvas::{Canvas, side_ok};
 use xcf_usable::bad_row;
 
-// Two of the walk's refusals, as wide as an answer's number.
-const BAD_SIDE: u64 = refusal::BAD_SIDE as u64;
-
-const BAD_BASE: u64 = refusal::BAD_BASE as u64;
-
 // The places of the canvas's sides and base type in a file.
-const WIDTH_PLACE: u64 = 14;
+const WIDTH_PLACE: usize = 14;
 
-const HEIGHT_PLACE: u64 = 18;
+const HEIGHT_PLACE: usize = 18;
 
-const BASE_PLACE: u64 = 22;
+const BASE_PLACE: usize = 22;
 
-// 17 at the lowest bad row, then 11 where the pixels are not as many as the rows have; or number 0.
-fn rows_refusal(canvas: Canvas, table: &[u32], names: &[u8], pixels: usize) -> WriteAnswer
-    ensures { result ≡ rows_refusal canvas table.now names.now pixels }
+// The used rows of a table without a bad row, where the pixels are as many as they have.
+fn good_rows<'a>(
+    canvas: Canvas,
+    table: &'a [u32],
+    names: &'a [u8],
+    pixels: &'a [u8],
+) -> Result<UsedRows<'a>, Refusal>
+    ensures refusal { refusal_of result ≡ rows_refusal canvas table.now names.now (length pixels.now) }
+    ensures rows { IfOk result (λ rows. Taken rows table.now names.now pixels.now) }
 {
-    let bad = bad_row(canvas, names, table);
-    if bad != TABLE_ROWS {
-        return answered(refusal::BAD_ROW, bad as u64, 0);
+    if let Some(row) = bad_row(canvas, names, table) {
+        return Err(Refusal {
+            reason: Reason::BadRow,
+            place: row as usize,
+        });
     }
-    if pixels == pixels_size(table, used_rows(table)) {
-        return answered(refusal::ACCEPTED, 0, 0);
+    let used = used_rows(table);
+    if pixels.len() != pixels_size(table, used) {
+        return Err(Refusal {
+            reason: Reason::WrongBuffer,
+            place: 0,
+        });
     }
-    answered(refusal::WRONG_BUFFER, 0, 0)
+    Ok(UsedRows {
+        table,
+        used,
+        names,
+        pixels,
+    })
 }
 
-// Before that, 11 for the table, 4 and 5.
-pub(crate) fn input_refusal(
+// The used rows, where the table has its length, the canvas's sides are in range and its base type is written.
+#[tactic(auto, unfolding(crate::specs::Answer::input_refusal))]
+pub(crate) fn rows_to_write<'a>(
     canvas: Canvas,
-    table: &[u32],
-    names: &[u8],
-    pixels: usize,
-) -> WriteAnswer
-    ensures { result ≡ input_refusal canvas table.now names.now pixels }
+    table: &'a [u32],
+    names: &'a [u8],
+    pixels: &'a [u8],
+) -> Result<UsedRows<'a>, Refusal>
+    ensures refusal { refusal_of result ≡ input_refusal canvas table.now names.now (length pixels.now) }
+    ensures rows { IfOk result (λ rows. Taken rows table.now names.now pixels.now) }
 {
     if table.len() != TABLE_SIZE {
-        return answered(refusal::WRONG_BUFFER, 0, 0);
+        return Err(Refusal {
+            reason: Reason::WrongBuffer,
+            place: 0,
+        });
     }
-    if side_ok(canvas.width) {
-        if side_ok(canvas.height) {
-            if canvas.base <= base::GREY {
-                return rows_refusal(canvas, table, names, pixels);
-            }
-            return answered(BAD_BASE, BASE_PLACE, 0);
-        }
-        return answered(BAD_SIDE, HEIGHT_PLACE, 0);
+    if !side_ok(canvas.width) {
+        return Err(Refusal {
+            reason: Reason::BadSide,
+            place: WIDTH_PLACE,
+        });
     }
-    answered(BAD_SIDE, WIDTH_PLACE, 0)
+    if !side_ok(canvas.height) {
+        return Err(Refusal {
+            reason: Reason::BadSide,
+            place: HEIGHT_PLACE,
+        });
+    }
+    if base::GREY < canvas.base {
+        return Err(Refusal {
+            reason: Reason::BadBase,
+            place: BASE_PLACE,
+        });
+    }
+    good_rows(canvas, table, names, pixels)
 }

@@ -4,11 +4,13 @@
 mod check;
 mod file;
 
-ghost use Rattle.std.specs.Prelude.{◌≡◌};
-ghost use Rattle.xcf_write.specs.Answer.{answered, Written};
+ghost use Rattle.xcf_write.specs.Answer.{Written};
+ghost use Rattle.xcf_write.specs.Result.{AnswerOf, answer_of};
 
-use crate::check::input_refusal;
+use crate::check::rows_to_write;
 use crate::file::write_file;
+use xcf_numbers::reason::Refusal;
+use xcf_numbers::refusal::ACCEPTED;
 use xcf_table::canvas::Canvas;
 
 #[repr(C)]
@@ -19,14 +21,37 @@ pub struct WriteAnswer {
     pub length: u64,
 }
 
-pub(crate) fn answered(number: u64, place: u64, length: u64) -> WriteAnswer
-    ensures { result ≡ answered number place length }
-{
-    WriteAnswer {
-        number,
-        place,
-        length,
+// The length of a file, or why there is none, as C sees it.
+impl From<Result<usize, Refusal>> for WriteAnswer {
+    ghost from_gives = { AnswerOf };
+
+    fn from(written: Result<usize, Refusal>) -> WriteAnswer {
+        match written {
+            Ok(length) => WriteAnswer {
+                number: ACCEPTED,
+                place: 0,
+                length: length as u64,
+            },
+            Err(refusal) => WriteAnswer {
+                number: u64::from(refusal.reason),
+                place: refusal.place as u64,
+                length: 0,
+            },
+        }
     }
+}
+
+fn written(
+    canvas: Canvas,
+    table: &[u32],
+    names: &[u8],
+    pixels: &[u8],
+    output: &mut [u8],
+) -> Result<usize, Refusal>
+    ensures { Written canvas table.now names.now pixels.now output.old (answer_of result) output.new }
+{
+    let rows = rows_to_write(canvas, table, names, pixels)?;
+    write_file(canvas, &rows, output)
 }
 
 // The file of the table's used rows, whose names stand in `names` and whose pixels follow each other in `pixels`, at the output's
@@ -40,9 +65,5 @@ pub fn write(
 ) -> WriteAnswer
     ensures { Written canvas table.now names.now pixels.now output.old result output.new }
 {
-    let refused = input_refusal(canvas, table, names, pixels.len());
-    if refused.number != 0 {
-        return refused;
-    }
-    write_file(canvas, table, names, pixels, output)
+    written(canvas, table, names, pixels, output).into()
 }

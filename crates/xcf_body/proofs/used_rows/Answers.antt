@@ -12,4 +12,4 @@ loop-k-preserved c =
     used_next c.loop-k.invariant c.loop-k-test.true c.row_at-row.ensures c.if-row-eq-UNUSED.false
 
 pub returns : goal.returns
-returns c = (used_all c.loop-k.invariant c.loop-k-test.false, c.loop-k.invariant.few)
+returns c = (used_all c.loop-k.invariant c.loop-k-test.false, omega arith)

@@ -1,29 +1,30 @@
--- `clear_from` meets its contract: at the loop's head, what stands in front with zeros behind it is what is to be left.
-use mathlib.Core.Path.{◌≡◌, ◌∙◌}
+-- `clear_from` meets its contract, by whether the table has numbers from row k on.
+use Prim.Native.Nat.{ℕ, ◌*◌, ◌-◌}
+use mathlib.Core.Path.{◌≡◌}
 use mathlib.Core.List.{List, ◌++◌, append-nil}
-use Prim.Native.Nat.{ℕ, suc, ◌+◌, ◌-◌, ◌≤◌, ◌<◌}
-use native.Mathlib.Numerals.{add-one}
 use native.Mathlib.Omega.{arith}
-use lib.ListN.{length, take, replicate, set, length-set}
-use lib.Seq.{append_snoc, take_all, take-suc-set}
+use borrow.Rule.Slice.PartMut.{put_mid}
+use Rattle.std.proofs.lemmas.List.{drop_all}
+use lib.ListN.{length, take, drop, replicate, length-drop, length-take}
+use lib.Seq.{take_all}
+use Rattle.xcf_numbers.specs.Limit.{row_size}
 use Rattle.xcf_table.specs.Table.{clear_from}
 use Rattle.xcf_table.proofs.clear_from.Goals as goal
 
--- a number cleared is one zero less to come
-one_cleared : (t : List ℕ) (i n : ℕ) → i < length t → i < n → take (i + 1) (set t i 0) ++ replicate (n - (i + 1)) 0 ≡ take i t ++ replicate (n - i) 0
-one_cleared t i n below less =
-    let e : n - i ≡ suc (n - (i + 1)) = omega arith in
-    rw (e, add-one, take-suc-set) (append_snoc (take i t) 0 (replicate (n - suc i) 0))
+-- the part from a place on filled with zeros
+zeros_behind : (t : List ℕ) (at : ℕ) → put_mid at (length t - at) t (replicate (length (take (length t - at) (drop at t))) 0) ≡ take at t ++ replicate (length t - at) 0
+zeros_behind t at =
+    let size : length (take (length t - at) (drop at t)) ≡ length t - at = simp (length-take, length-drop) (omega arith) in
+    rw (size, drop_all (length t - at) (drop at t) (rw length-drop (omega arith)), append-nil)
 
-pub loop-i-preserved : goal.loop-i-preserved
-loop-i-preserved c =
-    let l = c.loop-i in
-    (simp length-set l.invariant.0, one_cleared l.table l.i _ (omega arith) (omega arith) ∙ l.invariant.1)
-
-pub returns : goal.returns
+pub returns-then-first-table : goal.returns-then-first-table
 unfolding clear_from
-returns c =
-    let l = c.loop-i in
-    let past : length l.table ≤ l.i = omega arith in
-    let none : length c.args.table.now - l.i ≡ 0 = omega arith in
-    simp (take_all, none, append-nil) at l.invariant.1
+returns-then-first-table c =
+    rw (c.fill.ensures.after (λ y e. e)) (zeros_behind c.args.table.now (row_size * c.args.k))
+
+pub returns-else-first-table : goal.returns-else-first-table
+unfolding clear_from
+returns-else-first-table c =
+    let a = c.args in
+    let none : length a.table.now - row_size * a.k ≡ 0 = omega arith in
+    rw (take_all (row_size * a.k) a.table.now (omega arith), none, append-nil)

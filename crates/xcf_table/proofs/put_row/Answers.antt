@@ -1,6 +1,8 @@
--- `put_row` meets its contract, by whether the table has a row k: `put` pastes the row's numbers, or nothing changes.
+-- `put_row` meets its contract, by whether the table has a row k: the row's numbers are pasted, or nothing changes.
 use Prim.Native.Nat.{◌+◌, ◌*◌}
+use mathlib.Core.Path.{refl, ◌∙◌}
 use native.Mathlib.Omega.{arith}
+use Rattle.std.proofs.lemmas.Slice.{put_mid-paste}
 use borrow.Author.Tests.{le-leb, lt-leb}
 use lib.ListN.{length}
 use Rattle.xcf_numbers.specs.Limit.{row_size}
@@ -11,7 +13,8 @@ pub returns-then-at-table : goal.returns-then-at-table
 unfolding put_row
 returns-then-at-table c =
     let a = c.args in
-    rw (le-leb (row_size * (a.k + 1)) (length a.table.now) (omega arith)) (rw c.numbers.ensures at c.put.ensures)
+    rw (le-leb (row_size * (a.k + 1)) (length a.table.now) (omega arith))
+    (put_mid-paste _ _ _ _ _ _ (c.copy_from_slice.ensures.after ∙ c.into-numbers.ensures) (omega arith) refl)
 
 pub returns-else-at-table : goal.returns-else-at-table
 unfolding put_row

@@ -15,8 +15,8 @@ overflow_add-marked c = omega (arith, counting_few c.requires.0 c.loop-t.invaria
 pub loop-t-preserved : goal.loop-t-preserved
 loop-t-preserved c =
     let g = c.loop-t.invariant in
-    let less : c.loop-t.t < c.args.row.count = omega (arith, c.loop-t-test.true) in
-    let tile = c.decode_one-mark.ensures in
+    let less : c.loop-t.t < c.args.drawable.now.row.count = omega (arith, c.loop-t-test.true) in
+    let tile = c.decode-mark.ensures in
     elim c.if-mark-ne0.branch [
       | then-mark-ne0 w ↦ rw w.marked-is (counting_bad g less tile (λ z. omega (arith, z, w.if-mark-ne0.true)))
       | else-mark-ne0 w ↦ rw w.marked-is (counting_good g less tile (omega (arith, w.if-mark-ne0.false)))

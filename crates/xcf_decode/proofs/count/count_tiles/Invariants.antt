@@ -1,10 +1,10 @@
 -- `count_tiles` meets its contract: `Counting` holds at the loop's head, and each tile keeps it.
-use Prim.Native.Nat.{◌-◌}
+use Rattle.xcf_store.specs.Width.{bytes_of}
+use Rattle.xcf_tile.specs.Compression.{number_of}
 use Rattle.xcf_decode.proofs.TilesLoop.{Counting}
 use Rattle.xcf_decode.proofs.count.count_tiles.Given as goal
 
 abbrev pub invariant-loop-t : goal.invariant-loop-t
-invariant-loop-t l = Counting l.size l.file l.row l.compression l.scratch l.t l.marked
-
-abbrev pub decreases-loop-t : goal.decreases-loop-t
-decreases-loop-t l = l.row.count - l.t
+invariant-loop-t l =
+    let d = l.drawable in
+    Counting (bytes_of d.width) d.file.now d.row (number_of d.compression) l.scratch l.t l.marked

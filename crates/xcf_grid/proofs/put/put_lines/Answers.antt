@@ -1,10 +1,19 @@
 -- `put_lines` meets its contract: `LinesGoing` holds at the loop's head, and a line put keeps it.
+use Prim.Native.Nat.{◌+◌, ◌-◌, ◌*◌}
+use mathlib.Core.Path.{◌≡◌}
 use native.Mathlib.Omega.{arith}
 use Rattle.xcf_grid.proofs.LinesLoop.{going_copied, going_over}
 use Rattle.xcf_grid.proofs.put.put_lines.Goals as goal
 
-pub loop-rest-preserved : goal.loop-rest-preserved
-loop-rest-preserved c = going_copied c.loop-rest.invariant c.loop-rest-test.true (omega arith) c.copy_from_slice.ensures.after
+pub loop-j-preserved : goal.loop-j-preserved
+loop-j-preserved c =
+    let a = c.args in
+    let j = c.loop-j.j in
+    let target : a.at + a.stride * (j + 1) ≡ a.at + a.stride * j + a.stride = omega arith in
+    let source : a.line * (j + 1) ≡ a.line * j + a.line = omega arith in
+    let left : a.n - (j + 1) ≡ a.n - j - 1 = omega arith in
+    rw (target, source, left)
+    (going_copied c.loop-j.invariant (omega (arith, c.loop-j-test.true)) (omega arith) c.copy_from_slice.ensures.after)
 
 pub returns : goal.returns
-returns c = going_over c.loop-rest.invariant (omega (arith, c.loop-rest-test.false))
+returns c = going_over c.loop-j.invariant (omega (arith, c.loop-j-test.false))

@@ -1,9 +1,7 @@
 -- `put_lines` meets its contract: `LinesGoing` holds at the loop's head, and a line put keeps it.
+use Prim.Native.Nat.{◌+◌, ◌-◌, ◌*◌}
 use Rattle.xcf_grid.proofs.LinesLoop.{LinesGoing}
 use Rattle.xcf_grid.proofs.put.put_lines.Given as goal
 
-abbrev pub invariant-loop-rest : goal.invariant-loop-rest
-invariant-loop-rest l = LinesGoing l.initial.pixels l.at l.stride l.tile l.line l.n l.pixels l.to l.from l.rest
-
-abbrev pub decreases-loop-rest : goal.decreases-loop-rest
-decreases-loop-rest l = l.rest
+abbrev pub invariant-loop-j : goal.invariant-loop-j
+invariant-loop-j l = LinesGoing l.initial.pixels l.at l.stride l.tile l.line l.n l.pixels (l.at + l.stride * l.j) (l.line * l.j) (l.n - l.j)

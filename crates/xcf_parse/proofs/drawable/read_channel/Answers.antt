@@ -1,10 +1,10 @@
--- `read_channel` meets its contract: two sides like the owner's and the fields are the walk's do block step by step;
--- the bounds, and what stands beside a refusal, are those of `read_fields`.
-use Rattle.xcf_walk.proofs.Resume.{then}
+-- `read_channel` meets its contract: the list's kind stands for the number of its owner's kind (`fields_same`).
 use Rattle.xcf_parse.specs.Drawable.{channel}
+use Rattle.xcf_parse.proofs.Lists.{fields_same}
+use Rattle.xcf_walk.proofs.Steps.{then}
 use Rattle.xcf_parse.proofs.drawable.read_channel.Goals as goal
 
-pub returns-clause-reads : goal.returns-clause-reads
+pub returns-clause-walks : goal.returns-clause-walks
 unfolding channel
-returns-clause-reads c =
-    let x = c.read_fields.ensures.reads in record { leads = then _ c.side_like-first.ensures (then _ c.side_like-second.ensures x.leads); absent = x.absent }
+returns-clause-walks c =
+    then _ c.in_ok-side_like.ensures (then _ c.in_ok-side_like-2.ensures (rw (fields_same _ _ _ c.from.ensures) at c.read_fields.ensures.walks))

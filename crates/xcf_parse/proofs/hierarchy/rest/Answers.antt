@@ -1,32 +1,34 @@
--- `rest` meets its contract: `Going` holds at the loop's head, and each number is a turn.
-use Prim.Native.Nat.{ℕ}
-use mathlib.Core.List.{List}
-use mathlib.Core.Bool.{not}
+-- `rest` meets its contract: what is left of the loop gives what the whole gives (`Left`), and each number is a turn.
+use mathlib.Core.Path.{refl}
 use native.Mathlib.Omega.{arith}
-use lib.Dec.{eqb}
-use Rattle.xcf_store.proofs.Sizes.{some_bytes}
-use Rattle.xcf_store.specs.Pointer.{PointerSize}
-use Rattle.xcf_walk.specs.declared.cursor.Cursor.{Cursor}
-use Rattle.xcf_walk.specs.Cursor.{Reads}
-use Rattle.xcf_walk.specs.Fields.{number}
-use Rattle.xcf_walk.proofs.Loops.{Moves, going_start, going_turn, going_over, left_falls}
-use Rattle.xcf_parse.specs.Hierarchy.{rest}
-use Rattle.xcf_parse.proofs.Pointers.{rest_turn_lem, rest_moves}
+use borrow.Author.Tests.{eq-eqb, ne_eqb}
+use Rattle.xcf_store.specs.declared.pointer.Width.{Width}
+use Rattle.xcf_store.specs.Width.{bytes_of}
+use Rattle.xcf_store.proofs.Sizes.{some_bytes, sized}
+use Rattle.xcf_walk.proofs.Advances.{Advances}
+use Rattle.xcf_walk.proofs.Loops.{loop_starts, loop_goes, loop_ends, loop_stops, moved, left_falls}
+use Rattle.xcf_parse.specs.Hierarchy.{rest_turn, rest}
+use Rattle.xcf_parse.proofs.Pointers.{advances_rest_turn, rest_turned, rest_refused}
 use Rattle.xcf_parse.proofs.hierarchy.rest.Goals as goal
 
-moves : {size : ℕ} {f : List ℕ} {next behind : Cursor} {p : ℕ} → PointerSize size → Reads next (number size) f 0 behind p → Moves f (not (eqb p 0)) next behind
-moves is_size p = rest_moves _ p (omega (arith, (some_bytes is_size).0))
+advances : (width : Width) → Advances (rest_turn (bytes_of width) tt)
+advances width = advances_rest_turn (bytes_of width) (omega (arith, (some_bytes (sized width)).0))
 
-pub loop-again-init : goal.loop-again-init
-loop-again-init c = going_start
+pub loop-init : goal.loop-init
+loop-init c = loop_starts
 
-pub loop-again-smaller : goal.loop-again-smaller
-loop-again-smaller c = left_falls _ _ _ _ _ c.loop-again-test.true (moves c.requires c.pointer-p.ensures)
+pub loop-smaller : goal.loop-smaller
+loop-smaller c = left_falls (advances _) (rest_turned _ c.in_ok-pointer.ensures)
 
-pub loop-again-preserved : goal.loop-again-preserved
-loop-again-preserved c =
-    going_turn c.loop-again.invariant c.loop-again-test.true (rest_turn_lem _ c.pointer-p.ensures) (moves c.requires c.pointer-p.ensures)
+pub loop-preserved : goal.loop-preserved
+loop-preserved c =
+    loop_goes c.loop.invariant (rest_turned _ c.in_ok-pointer.ensures) (rw (ne_eqb _ _ c.if-branch-ne0.true) refl)
+    (moved (advances _) (rest_turned _ c.in_ok-pointer.ensures))
+
+pub returns-in_err-pointer : goal.returns-in_err-pointer
+unfolding rest
+returns-in_err-pointer c = loop_stops c.loop.invariant (rest_refused _ c.in_err-pointer.ensures) c.from_residual.ensures.1
 
 pub returns : goal.returns
 unfolding rest
-returns c = going_over c.loop-again.invariant c.loop-again-test.false
+returns c = loop_ends c.loop.invariant _ (rest_turned _ c.in_ok-pointer.ensures) (rw (eq-eqb _ _ c.if-branch-ne0.false) refl)

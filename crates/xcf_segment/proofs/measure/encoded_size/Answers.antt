@@ -1,20 +1,24 @@
--- The invariant is `SizeLeft`; a turn is `size_turn` at the segment that was read.
-use native.Mathlib.Omega.{arith}
+-- The invariant is `SizeLeft` of the segments' bytes; a turn is `size_turn` at the segment that came.
+use Rattle.std.proofs.Common.{arith}
+use Rattle.xcf_segment.specs.Segment.{encode_stream}
 use Rattle.xcf_segment.proofs.Bound.{bound}
-use Rattle.xcf_segment.proofs.SegmentsLoop.{size_turn, size_whole}
+use Rattle.xcf_segment.proofs.PiecesLoop.{size_start, size_turn, size_whole}
+use Rattle.xcf_segment.proofs.SegmentsWithin.{segments_within}
 use Rattle.xcf_segment.proofs.measure.encoded_size.Goals as goal
 
-pub overflow_add-size : goal.overflow_add-size
-overflow_add-size c =
-    let stream = c.args.stream.now in
-    let s = c.segment_at-segment.ensures in
-    let turned = size_turn c.loop-at.invariant s _ (c.segment_size-size.ensures stream c.loop-at.at s.inside) in
-    omega (arith, turned.whole, bound stream)
+pub loop-segment-init : goal.loop-segment-init
+loop-segment-init c = size_start 0 _ (segments_within _ c.args.stream.now c.requires) cc
 
-pub loop-at-preserved : goal.loop-at-preserved
-loop-at-preserved c =
-    let s = c.segment_at-segment.ensures in
-    size_turn c.loop-at.invariant s _ (c.segment_size-size.ensures c.args.stream.now c.loop-at.at s.inside)
+pub overflow_add-size : goal.overflow_add-size
+unfolding encode_stream
+overflow_add-size c =
+    let turned = size_turn c.loop-segment.invariant _ _ c.in-Some.ensures.steps _ c.segment_size-size.ensures in
+    omega (arith, turned.whole, bound c.args.stream.now)
+
+pub loop-segment-preserved : goal.loop-segment-preserved
+loop-segment-preserved c =
+    size_turn c.loop-segment.invariant _ _ c.in-Some.ensures.steps _ c.segment_size-size.ensures
 
 pub returns : goal.returns
-returns c = size_whole c.loop-at.invariant c.loop-at-test.false
+unfolding encode_stream
+returns c = omega (arith, size_whole c.loop-segment.invariant c.in-None.ensures.steps.0)

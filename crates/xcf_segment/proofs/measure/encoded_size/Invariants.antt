@@ -1,11 +1,10 @@
--- The invariant is `SizeLeft`; a turn is `size_turn` at the segment that was read.
-use Prim.Native.Nat.{◌-◌}
-use lib.ListN.{length}
-use Rattle.xcf_segment.proofs.SegmentsLoop.{SizeLeft}
+-- The invariant is `SizeLeft` of the segments' bytes; a turn is `size_turn` at the segment that came.
+use Rattle.xcf_numbers.specs.Limit.{stream_limit}
+use Rattle.xcf_segment.specs.Parts.{segments_left}
+use Rattle.xcf_segment.specs.Segment.{segments, segment_bytes}
+use Rattle.xcf_segment.proofs.PiecesLoop.{SizeLeft}
+use Rattle.xcf_segment.proofs.SegmentsWithin.{Within}
 use Rattle.xcf_segment.proofs.measure.encoded_size.Given as goal
 
-abbrev pub invariant-loop-at : goal.invariant-loop-at
-invariant-loop-at l = SizeLeft l.stream l.at l.size
-
-abbrev pub decreases-loop-at : goal.decreases-loop-at
-decreases-loop-at l = length l.stream - l.at
+abbrev pub invariant-loop-segment : goal.invariant-loop-segment
+invariant-loop-segment l = SizeLeft segment_bytes (Within stream_limit) (segments l.stream) 0 (segments_left l.segment-iterator) l.size

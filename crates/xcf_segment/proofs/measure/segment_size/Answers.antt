@@ -1,9 +1,9 @@
--- A head and a byte, or a head and the bytes copied: the length of the operation by whether the segment is a run.
-use Rattle.xcf_segment.proofs.SegmentBytes.{run_length, copy_length, taken_length}
+-- A head and a byte, or a head and the bytes copied.
+use Rattle.xcf_segment.proofs.SegmentBytes.{run_length, copy_length}
 use Rattle.xcf_segment.proofs.measure.segment_size.Goals as goal
 
-pub returns-then-segment : goal.returns-then-segment
-returns-then-segment c = λ stream at inside. rw (c.if-segment.true, c.head_size.ensures, run_length)
+pub returns-in-Run : goal.returns-in-Run
+returns-in-Run c = rw (c.in-Run.is, c.head_size.ensures, run_length)
 
-pub returns : goal.returns
-returns c = λ stream at inside. rw (c.if-segment.false, c.head_size-2.ensures, copy_length, taken_length)
+pub returns-in-Copy : goal.returns-in-Copy
+returns-in-Copy c = rw (c.in-Copy.is, c.head_size-in-Copy.ensures, copy_length)

@@ -1,37 +1,21 @@
--- A head, and the bytes copied behind it: `copy_room` and `copy_put`.
-use mathlib.Core.Path.{◌≡◌, ap}
-use Prim.Native.Nat.{◌+◌, ◌-◌}
+-- A head, and the bytes copied behind it.
+use Prim.Native.Nat.{◌-◌}
 use native.Mathlib.Omega.{arith}
-use lib.ListN.{length, take, drop}
-use Rattle.xcf_segment.specs.Parts.{head_size}
-use Rattle.xcf_segment.proofs.SegmentBytes.{head_length, copy_length, taken_length, copy_room, copy_put}
+use lib.ListN.{length}
+use Rattle.xcf_segment.proofs.SegmentBytes.{head_length, copy_length, copy_bytes}
+use Rattle.xcf_store.proofs.Stores.{put_append, put_length}
 use Rattle.xcf_segment.proofs.put.put_copy.Goals as goal
 
--- the head and the `count` bytes copied are the operation, for which there is room
-pub put_copy_head-body-requires : goal.put_copy_head-body-requires
-put_copy_head-body-requires c =
-    let a = c.args in
-    let long : length (take a.count (drop a.at a.stream.now)) ≡ a.count = taken_length _ _ _ c.requires.1.1.0 in (
-      c.requires.0,
-      (c.requires.1.0, omega (arith, c.requires.1.1.1, head_length a.count (256 - a.count) 128, copy_length (take a.count (drop a.at a.stream.now)), long, ap head_size long)),
-    )
+pub put_copy_head-requires : goal.put_copy_head-requires
+put_copy_head-requires c =
+    let bytes = c.args.bytes.now in
+    (c.requires.0, (c.requires.1.0, omega (arith, c.requires.1.1, head_length (length bytes) (256 - length bytes) 128, copy_length bytes)))
 
--- there is room for them behind the head
-pub slice_bounds-copy_from_slice-end : goal.slice_bounds-copy_from_slice-end
-slice_bounds-copy_from_slice-end c =
-    omega (arith, copy_room c.put_copy_head-body.ensures _ (taken_length _ _ _ c.requires.1.1.0) c.requires.1.1.1)
+pub bytes-requires : goal.bytes-requires
+bytes-requires c =
+    let bytes = c.args.bytes.now in
+    let head = c.put_copy_head.ensures.stores in
+    omega (arith, c.requires.1.1, head.behind, put_length head, head_length (length bytes) (256 - length bytes) 128, copy_length bytes)
 
-pub returns : goal.returns
-returns c =
-    let a = c.args in
-    let long : length (take a.count (drop a.at a.stream.now)) ≡ a.count = taken_length _ _ _ c.requires.1.1.0 in
-    let exact : a.at + a.count - a.at ≡ a.count = omega arith in
-    copy_put
-    c.put_copy_head-body.ensures
-    _
-    long
-    c.requires.1.1.1
-    _
-    _
-    (omega arith)
-    (rw exact at c.copy_from_slice.ensures.after)
+pub returns-clause-stores : goal.returns-clause-stores
+returns-clause-stores c = rw (copy_bytes c.args.bytes.now) (put_append c.put_copy_head.ensures.stores c.bytes.ensures.stores)

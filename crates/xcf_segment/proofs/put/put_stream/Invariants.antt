@@ -1,11 +1,10 @@
--- The invariant is `StoreLeft`; a turn is `store_turn` at the segment that was read and the bytes that were put.
-use Prim.Native.Nat.{◌-◌}
-use lib.ListN.{length}
-use Rattle.xcf_segment.proofs.SegmentsLoop.{StoreLeft}
+-- The invariant is `StoreLeft` of the segments' bytes; a turn is `store_turn` at the segment that came and the bytes that were put.
+use Rattle.xcf_numbers.specs.Limit.{stream_limit}
+use Rattle.xcf_segment.specs.Parts.{segments_left}
+use Rattle.xcf_segment.specs.Segment.{segments, segment_bytes}
+use Rattle.xcf_segment.proofs.PiecesLoop.{StoreLeft}
+use Rattle.xcf_segment.proofs.SegmentsWithin.{Within}
 use Rattle.xcf_segment.proofs.put.put_stream.Given as goal
 
-abbrev pub invariant-loop-at : goal.invariant-loop-at
-invariant-loop-at l = StoreLeft l.stream l.initial.output l.at l.to l.output
-
-abbrev pub decreases-loop-at : goal.decreases-loop-at
-decreases-loop-at l = length l.stream - l.at
+abbrev pub invariant-loop-segment : goal.invariant-loop-segment
+invariant-loop-segment l = StoreLeft segment_bytes (Within stream_limit) (segments l.stream) l.initial.output (segments_left l.segment-iterator) l.output

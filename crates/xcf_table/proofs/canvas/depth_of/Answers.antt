@@ -1,13 +1,8 @@
--- `depth_of` meets its contract: below 6 it reads the definition's list; from 6 on it gives the list's default, 0.
-use mathlib.Core.Path.{refl, sym}
-use lib.ListN.{get_or-eq_default}
-use Rattle.xcf_table.specs.Canvas.{depths, depth_of}
+-- `depth_of` meets its contract: the list has a depth for each type, and the default for other numbers is the definition's.
+use native.Mathlib.Omega.{arith}
+use Rattle.xcf_table.specs.Canvas.{depth_of}
 use Rattle.xcf_table.proofs.canvas.depth_of.Goals as goal
 
-pub returns-then-t-lt6 : goal.returns-then-t-lt6
+pub returns : goal.returns
 unfolding depth_of
-returns-then-t-lt6 c = refl
-
-pub returns-else-t-lt6 : goal.returns-else-t-lt6
-unfolding depth_of
-returns-else-t-lt6 c = sym (get_or-eq_default depths 0 c.if-t-lt6.false)
+returns c = rw (c.unwrap_or.ensures, c.copied.ensures) (grind (arith, c.get.ensures.lookup))

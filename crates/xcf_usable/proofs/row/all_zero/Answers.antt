@@ -1,26 +1,13 @@
--- `all_zero` meets its contract: at the loop's head, the numbers are all 0 if those from number i on are.
-use mathlib.Core.Path.{sym, ◌∙◌}
-use native.Mathlib.Omega.{arith}
-use borrow.Author.Tests.{eq-eqb, ne_eqb}
-use lib.ListN.{drop_of_length-le}
-use Rattle.xcf_usable.specs.Usable.{all_zero}
-use Rattle.xcf_usable.proofs.Zeros.{zero_head}
+-- `all_zero` meets its contract: as the search of the numbers says (`zeros_told`).
+use mathlib.Core.Path.{◌≡◌}
+use mathlib.Core.Logic.{◌≢◌}
+use borrow.Author.Tests.{tests}
+use Rattle.std.proofs.Common.{rules}
+use Rattle.std.proofs.lemmas.Iterator.{YieldsList-from_slice, cases_from_all}
+use Rattle.xcf_usable.proofs.Zeros.{zeros_told}
 use Rattle.xcf_usable.proofs.row.all_zero.Goals as goal
 
-pub returns-then-numbers-i-ne0 : goal.returns-then-numbers-i-ne0
-returns-then-numbers-i-ne0 c =
-    let numbers = c.args.numbers.now in
-    let l = c.loop-i in
-    sym (rw (ne_eqb _ 0 c.if-numbers-i-ne0.true) at (zero_head numbers l.i c.loop-i-test.true)) ∙ l.invariant.1
-
-pub loop-i-preserved : goal.loop-i-preserved
-loop-i-preserved c =
-    let numbers = c.args.numbers.now in
-    let l = c.loop-i in
-    (omega arith, sym (rw (eq-eqb _ 0 c.if-numbers-i-ne0.false) at (zero_head numbers l.i c.loop-i-test.true)) ∙ l.invariant.1)
-
 pub returns : goal.returns
-unfolding all_zero
 returns c =
-    let l = c.loop-i in
-    rw (drop_of_length-le c.args.numbers.now c.loop-i-test.false) at l.invariant.1
+    zeros_told c.args.numbers.now _
+    (cases_from_all _ _ _ (λ n. n ≡ 0) (λ n. n ≢ 0) c.all.ensures.ran (YieldsList-from_slice c.args.numbers.now cc) (λ x q k. search (rules, tests)) (λ x q k. search (rules, tests)))

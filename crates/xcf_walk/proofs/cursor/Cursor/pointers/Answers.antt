@@ -1,10 +1,13 @@
--- `pointers` meets its contract: `PointersGoing` holds at the loop's head; a pointer keeps it (`going_next`),
--- and so does what ends the loop, a 0 or a refusal. Beside a refusal stands no pointer (`given_none`).
-use Rattle.xcf_walk.proofs.PointersLoop.{going_next, given_none}
+-- `pointers` meets its contract: what is left of the list gives what the whole gives (`PointersLeft`).
+use mathlib.Core.Path.{refl}
+use Rattle.xcf_walk.proofs.PointersLoop.{pointers_go, pointers_end, pointers_stop}
 use Rattle.xcf_walk.proofs.cursor.Cursor.pointers.Goals as goal
 
-pub loop-again-preserved-then-again : goal.loop-again-preserved-then-again
-loop-again-preserved-then-again c = going_next c.loop-again.invariant c.loop-again-test.true c.pointer_turn-turn.ensures c.requires.1 c.if-again.true
+pub loop-p-preserved : goal.loop-p-preserved
+loop-p-preserved g c = pointers_go c.loop-p.invariant _ c.remaining_capacity.ensures (rw c.in-Some.is at c.in_ok-p.ensures.room) (rw c.in-Some.is at c.in_ok-p.ensures.walks) c.push.ensures.items
 
-pub returns-then-next-ne0 : goal.returns-then-next-ne0
-returns-then-next-ne0 c = given_none c.loop-again.invariant c.loop-again-test.false c.if-next-ne0.true
+pub returns-in_err-p : goal.returns-in_err-p
+returns-in_err-p g c = pointers_stop c.loop-p.invariant _ c.remaining_capacity.ensures c.in_err-p.ensures.walks c.from_residual.ensures.1
+
+pub returns : goal.returns
+returns g c = pointers_end c.loop-p.invariant _ c.remaining_capacity.ensures _ (rw c.in_default.is at c.in_ok-p.ensures.walks) refl

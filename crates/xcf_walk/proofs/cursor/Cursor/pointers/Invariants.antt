@@ -1,12 +1,12 @@
--- `pointers` meets its contract: `PointersGoing` holds at the loop's head; a pointer keeps it (`going_next`),
--- and so does what ends the loop, a 0 or a refusal. Beside a refusal stands no pointer (`given_none`).
-use Prim.Native.Nat.{suc, ◌-◌}
-use mathlib.Core.Bool.{cond}
-use Rattle.xcf_walk.proofs.PointersLoop.{PointersGoing}
+-- `pointers` meets its contract: what is left of the list gives what the whole gives (`PointersLeft`).
+use Prim.Native.Nat.{◌-◌}
+use lib.ListN.{length}
+use Rattle.xcf_store.specs.Width.{bytes_of}
+use Rattle.xcf_walk.proofs.PointersLoop.{PointersLeft}
 use Rattle.xcf_walk.proofs.cursor.Cursor.pointers.Given as goal
 
-abbrev pub invariant-loop-again : goal.invariant-loop-again
-invariant-loop-again l = PointersGoing l.size l.file l.initial.next l.most l.again l.next l.count l.read.list
+abbrev pub invariant-loop-p : goal.invariant-loop-p
+invariant-loop-p g l = PointersLeft (bytes_of l.width) g.row.MOST l.fn.self l.self l.list.items
 
-abbrev pub decreases-loop-again : goal.decreases-loop-again
-decreases-loop-again l = cond l.again (suc (l.most - l.count)) 0
+abbrev pub decreases-loop-p : goal.decreases-loop-p
+decreases-loop-p g l = g.row.MOST - length l.list.items

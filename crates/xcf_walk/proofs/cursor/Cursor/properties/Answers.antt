@@ -1,28 +1,27 @@
--- `properties` meets its contract: `Going` holds at the loop's head, and each turn keeps it.
+-- `properties` meets its contract: what is left of the list gives what the whole gives (`Left`), and each turn moves on in the file.
+use mathlib.Core.Path.{sym, ◌∙◌, ap}
+use Rattle.xcf_walk.specs.Walk.{more}
 use Rattle.xcf_walk.specs.Property.{properties}
-use Rattle.xcf_walk.proofs.Resume.{reads_live, reads_none}
-use Rattle.xcf_walk.proofs.Loops.{going_start, going_turn, going_over, left_falls}
+use Rattle.xcf_walk.specs.Parts.{turn_of}
+use Rattle.xcf_walk.proofs.Advances.{advances_property_turn}
+use Rattle.xcf_walk.proofs.Loops.{loop_starts, loop_goes, loop_ends, loop_stops, moved, left_falls}
 use Rattle.xcf_walk.proofs.cursor.Cursor.properties.Goals as goal
 
-pub loop-again-init : goal.loop-again-init
-loop-again-init c = going_start
+pub loop-x-init : goal.loop-x-init
+loop-x-init c = loop_starts
 
-pub loop-again-smaller : goal.loop-again-smaller
-loop-again-smaller c = left_falls _ _ _ _ _ c.loop-again-test.true c.property_turn-turn.ensures.at_lt_at
+pub loop-x-smaller : goal.loop-x-smaller
+loop-x-smaller c = left_falls (advances_property_turn _ _ _) c.in_ok-x.ensures
 
-pub loop-again-preserved : goal.loop-again-preserved
-loop-again-preserved c =
-    let turn = c.property_turn-turn.ensures in
-    going_turn c.loop-again.invariant c.loop-again-test.true turn.leads turn.at_lt_at
+pub loop-x-preserved : goal.loop-x-preserved
+loop-x-preserved c =
+    loop_goes c.loop-x.invariant c.in_ok-x.ensures (ap (turn_of _ _) c.in-Some.is ∙ ap more (sym c.put-p.ensures))
+    (moved (advances_property_turn _ _ _) c.in_ok-x.ensures)
 
-pub returns-then-cursor-ne0 : goal.returns-then-cursor-ne0
+pub returns-in_err-x : goal.returns-in_err-x
 unfolding properties
-returns-then-cursor-ne0 c =
-    rw (c.none-p.ensures, ← c.defaults-p.ensures)
-    (reads_none c.if-cursor-ne0.true (going_over c.loop-again.invariant c.loop-again-test.false))
+returns-in_err-x c = rw (← c.defaults-p.ensures) (loop_stops c.loop-x.invariant c.in_err-x.ensures c.from_residual.ensures.1)
 
-pub returns-else-cursor-ne0 : goal.returns-else-cursor-ne0
+pub returns : goal.returns
 unfolding properties
-returns-else-cursor-ne0 c =
-    rw (← c.defaults-p.ensures)
-    (reads_live c.if-cursor-ne0.false (going_over c.loop-again.invariant c.loop-again-test.false))
+returns c = rw (← c.defaults-p.ensures) (loop_ends c.loop-x.invariant _ c.in_ok-x.ensures (ap (turn_of _ _) c.in_default.is))
