@@ -5,7 +5,7 @@ use Prim.Native.Nat.{ℕ, ◌≤◌}
 use mathlib.Core.Path.{refl}
 use mathlib.Core.Bool.{cond}
 use lib.Dec.{eqb}
-use Rattle.std.specs.Prelude.{Ok, Err}
+use Rattle.std.specs.Prelude.{Result, Ok, Err}
 use Rattle.xcf_numbers.specs.declared.reason.Refusal.{Refusal}
 use Rattle.xcf_walk.specs.declared.cursor.Cursor.{Cursor}
 use Rattle.xcf_walk.specs.Walk.{here, Turn, more, last}
@@ -40,3 +40,8 @@ module _ (size : ℕ) {c d : Cursor} where
   pub rest_refused : {e : Refusal} → Walks (number size) c (Err e) d → WalksBy rest_turns (rest_turn size tt) c (Err e) d
   unfolding rest_turn
   rest_refused t = stops _ t refl
+
+  -- so a turn gives what its pointer gives
+  pub rest_turn_lem : {r : Result ℕ Refusal} → Walks (number size) c r d → WalksBy rest_turns (rest_turn size tt) c r d
+  rest_turn_lem {r = Ok p} t = rest_turned t
+  rest_turn_lem {r = Err e} t = rest_refused t

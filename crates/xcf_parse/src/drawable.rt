@@ -12,7 +12,7 @@ use xcf_numbers::reason::{Reason, Refusal};
 use xcf_property::{ListKind, Properties};
 use xcf_store::pointer::Width;
 use xcf_table::canvas::{side_ok, type_ok};
-use xcf_walk::cursor::{Cursor, Name, require};
+use xcf_walk::cursor::{Cursor, Name};
 
 // What every drawable has behind its sides and type; list is the place of its properties.
 #[derive(Clone, Copy)]
@@ -51,7 +51,7 @@ pub(crate) fn side(cursor: &mut Cursor) -> Result<u32, Refusal>
 {
     let at = cursor.at;
     let n = cursor.word()?;
-    require(side_ok(n), Reason::BadSide, at)?;
+    cursor.check(side_ok(n), Reason::BadSide, at)?;
     Ok(n)
 }
 
@@ -62,7 +62,7 @@ fn side_like(cursor: &mut Cursor, v: u32) -> Result<(), Refusal>
 {
     let at = cursor.at;
     let n = side(cursor)?;
-    require(n == v, Reason::Disagrees, at)
+    cursor.check(n == v, Reason::Disagrees, at)
 }
 
 #[tactic(auto, using(xcf_walk::proofs::Walks::steps), unfolding(crate::specs::Drawable::layer_type))]
@@ -71,7 +71,7 @@ fn layer_type(cursor: &mut Cursor, base: u32) -> Result<u32, Refusal>
 {
     let at = cursor.at;
     let t = cursor.word()?;
-    require(type_ok(base, t), Reason::Disagrees, at)?;
+    cursor.check(type_ok(base, t), Reason::Disagrees, at)?;
     Ok(t)
 }
 

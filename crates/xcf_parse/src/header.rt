@@ -6,7 +6,7 @@ ghost use Rattle.xcf_parse.specs.Parts.{VersionOf};
 
 use xcf_numbers::reason::{Reason, Refusal};
 use xcf_numbers::version;
-use xcf_walk::cursor::{Cursor, require};
+use xcf_walk::cursor::Cursor;
 
 pub const MAGIC: [u8; 9] = *b"gimp xcf ";
 
@@ -54,10 +54,11 @@ pub(crate) fn header(cursor: &mut Cursor) -> Result<u32, Refusal>
 {
     let start = cursor.at;
     let magic = cursor.bytes(9)?;
-    require(same(magic, &MAGIC), Reason::NotXcf, start)?;
+    cursor.check(same(magic, &MAGIC), Reason::NotXcf, start)?;
     let at = cursor.at;
     let tag = cursor.bytes(5)?;
     let Some(version) = version_of(tag) else {
+        cursor.jump(at);
         return Err(Refusal {
             reason: Reason::BadVersion,
             place: at,

@@ -8,7 +8,7 @@ ghost use Rattle.xcf_parse.specs.Hierarchy.{agrees, pointer, rest, hierarchy};
 use xcf_grid::tile_count;
 use xcf_numbers::reason::{Reason, Refusal};
 use xcf_store::pointer::Width;
-use xcf_walk::cursor::{Cursor, require};
+use xcf_walk::cursor::Cursor;
 
 // A word that has to be v.
 #[tactic(auto, using(xcf_walk::proofs::Walks::steps), unfolding(crate::specs::Hierarchy::agrees))]
@@ -17,7 +17,7 @@ fn agrees(cursor: &mut Cursor, v: u32) -> Result<(), Refusal>
 {
     let at = cursor.at;
     let n = cursor.word()?;
-    require(n == v, Reason::Disagrees, at)
+    cursor.check(n == v, Reason::Disagrees, at)
 }
 
 // A pointer that is not 0.
@@ -27,7 +27,7 @@ pub(crate) fn pointer(cursor: &mut Cursor, width: Width) -> Result<usize, Refusa
 {
     let at = cursor.at;
     let p = cursor.pointer(width)?;
-    require(p != 0, Reason::NoPointer, at)?;
+    cursor.check(p != 0, Reason::NoPointer, at)?;
     Ok(p)
 }
 

@@ -12,7 +12,7 @@ use xcf_numbers::reason::{Reason, Refusal};
 use xcf_numbers::{base, version};
 use xcf_property::ListKind;
 use xcf_store::pointer::Width;
-use xcf_walk::cursor::{Cursor, require};
+use xcf_walk::cursor::Cursor;
 
 // What stands before the pointers. The version and the base type are numbers, as what C is told has them.
 #[derive(Clone, Copy)]
@@ -52,7 +52,7 @@ fn base_type(cursor: &mut Cursor, version: u32) -> Result<u32, Refusal>
 {
     let at = cursor.at;
     let base = cursor.word()?;
-    require(base_ok(version, base), Reason::BadBase, at)?;
+    cursor.check(base_ok(version, base), Reason::BadBase, at)?;
     Ok(base)
 }
 
@@ -66,7 +66,7 @@ fn precision(cursor: &mut Cursor, version: u32) -> Result<(), Refusal>
     }
     let at = cursor.at;
     let n = cursor.word()?;
-    require(n == EIGHT_BIT_GAMMA, Reason::BadPrecision, at)
+    cursor.check(n == EIGHT_BIT_GAMMA, Reason::BadPrecision, at)
 }
 
 #[tactic(auto, using(xcf_walk::proofs::Walks::steps), unfolding(crate::specs::Image::head))]

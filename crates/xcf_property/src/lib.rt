@@ -194,7 +194,7 @@ impl Properties {
             opacity: FULL_OPACITY,
             visible: visible_unsaid(list),
             apply: 1,
-            ..Properties::default()
+            ..Properties::none()
         }
     }
 

@@ -49,7 +49,7 @@ module _ {S A : Type 0} {body : S → Walk (Turn S A)} {c₀ : Cursor} {s₀ : S
 
   pub loop_ends : {X Y : Type 0} {v : X → Turn S A} {u : Y → A} {x : X} {d : Cursor} (y : Y) → WalksBy v (body s) c (Ok x) d → v x ≡ last (u y)
       → WalksBy u (loop body s₀) c₀ (Ok y) d
-  loop_ends {u = u} {d = d} y turn e = record { gives = rw e at (turned turn) ∙ run_done d.file.now d.at (u y); file = turn.file ∙ l.file }
+  loop_ends {u = u} {d = d} y turn e = record { gives = rw e at (turned turn) ∙ run_done d.file.now d.at (u y); file = turn.file ∙ l.file; stands = tt }
 
   pub loop_stops : {X Y : Type 0} {v : X → Turn S A} {u : Y → A} {x : Refusal} {d : Cursor} {r : Result Y Refusal} → WalksBy v (body s) c (Err x) d
       → IsErrAnd r (λ y. y ≡ x) → WalksBy u (loop body s₀) c₀ r d
@@ -58,6 +58,7 @@ module _ {S A : Type 0} {body : S → Walk (Turn S A)} {c₀ : Cursor} {s₀ : S
   loop_stops {r = Err y} turn h = record {
     gives = l.gives ∙ run_bind (body s) (onward (turns l.spare body)) c.file.now c.at ∙ rw (turn.gives, h) refl;
     file = turn.file ∙ l.file;
+    stands = rw h turn.stands;
   }
 
 -- a turn that passes over a byte has moved on in the file

@@ -8,13 +8,14 @@ use mathlib.Core.List.{List, [], ◌∷◌, ◌++◌, append-nil, append_assoc}
 use mathlib.Core.Bool.{Bool, true, false, cond}
 use native.Mathlib.Nat.{sub-zero}
 use native.Mathlib.Omega.{arith}
-use borrow.Author.Tests.{lt-ltb}
+use borrow.Author.Tests.{lt-ltb, ne_eqb}
 use lib.Dec.{ltb, eqb}
 use lib.ListN.{length, length-append}
 use Rattle.std.specs.Prelude.{Option, Some, None, Result, Ok, Err}
 use Rattle.std.specs.Result.{IsErrAnd}
 use Rattle.xcf_numbers.specs.Refusal as Number
 use Rattle.xcf_numbers.specs.declared.reason.Refusal.{Refusal}
+use Rattle.xcf_numbers.specs.declared.reason.Reason.TheVariants as reason
 use Rattle.xcf_walk.specs.declared.cursor.Cursor.{Cursor}
 use Rattle.xcf_walk.specs.Walk.{Outcome, got, refused, Walk, done, ◌>>=◌, run, must}
 use Rattle.xcf_walk.specs.Fields.{number}
@@ -22,6 +23,7 @@ use Rattle.xcf_walk.specs.Cursor.{WalksBy, Walks}
 use Rattle.xcf_walk.specs.Pointers.{pointers}
 use Rattle.xcf_walk.specs.Parts.{next_pointer}
 use Rattle.xcf_walk.proofs.Walks.{after, run_bind, run_here}
+use Rattle.xcf_walk.proofs.Steps.{then, then_here, fails}
 
 -- how the list goes on behind its next pointer; where none is allowed there is none
 abbrev behind : ℕ → Option ℕ → ℕ → Walk (List ℕ)
@@ -101,9 +103,15 @@ module _ {size most : ℕ} {c₀ c : Cursor} {list : List ℕ} (l : PointersLeft
   pub pointers_end : {X : Type 0} {v : X → List ℕ} {d : Cursor} (y : X) → Walks (next_pointer size left) c (Ok None) d → v y ≡ list
       → WalksBy v (pointers size most) c₀ (Ok y) d
   unfolding run
-  pointers_end {d = d} y t e = record { gives = turned t ∙ ap (λ x. got x d.at) (append-nil list ∙ sym e); file = t.file ∙ l.file }
+  pointers_end {d = d} y t e = record { gives = turned t ∙ ap (λ x. got x d.at) (append-nil list ∙ sym e); file = t.file ∙ l.file; stands = tt }
 
   pub pointers_stop : {X : Type 0} {v : X → List ℕ} {d : Cursor} {x : Refusal} {r : Result X Refusal} → Walks (next_pointer size left) c (Err x) d → IsErrAnd r (λ y. y ≡ x)
       → WalksBy v (pointers size most) c₀ r d
   pointers_stop {r = Ok y} t h = absurd h
-  pointers_stop {r = Err y} t h = record { gives = after_next ∙ rw (t.gives, h) refl; file = t.file ∙ l.file }
+  pointers_stop {r = Err y} t h = record { gives = after_next ∙ rw (t.gives, h) refl; file = t.file ∙ l.file; stands = rw h t.stands }
+
+-- a pointer is refused where none is left
+pub too_many_lem : (size : ℕ) {c d e : Cursor} {p : ℕ} → (p ≡ 0 → ⊥) → Walks (number size) c (Ok p) d → e ≡ record { file = d.file; at = c.at }
+    → Walks (pointers size 0) c (Err (record { reason = reason.TooMany; place = c.at })) e
+unfolding pointers
+too_many_lem size {p = p} pointer t e = then_here _ (then _ t (fails _ (ne_eqb p 0 pointer) e))

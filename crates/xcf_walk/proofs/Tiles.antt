@@ -24,7 +24,7 @@ use Rattle.xcf_walk.specs.declared.cursor.Cursor.{Cursor}
 use Rattle.xcf_walk.specs.Walk.{got, refused, run, bytes, must}
 use Rattle.xcf_walk.specs.Fields.{number}
 use Rattle.xcf_walk.specs.Pointers.{tiles}
-use Rattle.xcf_walk.specs.Cursor.{outcome, Walks, Gives}
+use Rattle.xcf_walk.specs.Cursor.{outcome, Walks}
 use Rattle.xcf_walk.proofs.Walks.{run_bind, run_here, run_length}
 use Rattle.xcf_walk.proofs.Within.{got_number}
 
@@ -80,18 +80,22 @@ module _ (size n : ℕ) (c : Cursor) {next : Cursor} {r : Rising} (e : r ≡ ris
 
   pub tiles_stop : {d : Cursor} {x : Refused} {res : Result (Unit {0}) Refused} → Walks (number size) next (Err x) d → IsErrAnd res (λ y. y ≡ x) → Walks (tiles size n 0) c res d
   tiles_stop {res = Ok y} t h = absurd h
-  tiles_stop {res = Err y} t h = record { gives = past ∙ number_refused size next.file.now next.at (n - r.count) r.last (rw h t.gives); file = t.file ∙ same_file }
+  tiles_stop {res = Err y} t h = record { gives = past ∙ number_refused size next.file.now next.at (n - r.count) r.last (rw h t.gives); file = t.file ∙ same_file; stands = rw h t.stands }
 
-  module _ {d : Cursor} {p : ℕ} (res : Result (Unit {0}) Refused) (t : Walks (number size) next (Ok p) d) where
-    closed : n - r.count ≡ 0 → Gives (must (eqb p 0) Refusal.bad_tile_pointer next.at) res → run (tiles size (n - r.count) r.last) next.file.now next.at ≡ outcome (λ x. x) res d.at
+  module _ {d : Cursor} (end : Cursor) {p : ℕ} (res : Result (Unit {0}) Refused) (t : Walks (number size) next (Ok p) d) where
+    -- what the last test gives
+    abbrev Tested : Bool → Type 0
+    Tested b = run (must b Refusal.bad_tile_pointer next.at) next.file.now d.at ≡ outcome (λ x. x) res end.at
+
+    closed : n - r.count ≡ 0 → Tested (eqb p 0) → run (tiles size (n - r.count) r.last) next.file.now next.at ≡ outcome (λ x. x) res end.at
     unfolding tiles
-    closed none g = rw none (run_here next.file.now next.at _ ∙ run_bind (number size) _ next.file.now next.at ∙ rw t.gives (g next.file.now d.at))
+    closed none g = rw none (run_here next.file.now next.at _ ∙ run_bind (number size) _ next.file.now next.at ∙ rw t.gives g)
 
-    not_right : (k : ℕ) → n - r.count ≡ suc k → (ltb r.last p && ltb p (length next.file.now)) ≡ false → Gives (must false Refusal.bad_tile_pointer next.at) res
-        → run (tiles size (n - r.count) r.last) next.file.now next.at ≡ outcome (λ x. x) res d.at
+    not_right : (k : ℕ) → n - r.count ≡ suc k → (ltb r.last p && ltb p (length next.file.now)) ≡ false → Tested false
+        → run (tiles size (n - r.count) r.last) next.file.now next.at ≡ outcome (λ x. x) res end.at
     unfolding run tiles must
     not_right k one misses g =
-        rw one (run_here next.file.now next.at _ ∙ run_length next.file.now next.at _ ∙ run_bind (number size) _ next.file.now next.at ∙ rw (t.gives, misses) (g next.file.now d.at))
+        rw one (run_here next.file.now next.at _ ∙ run_length next.file.now next.at _ ∙ run_bind (number size) _ next.file.now next.at ∙ rw (t.gives, misses) g)
 
     not_risen : r.count < n → (ltb r.last p && ltb p (length next.file.now)) ≡ false
     not_risen less =
@@ -100,14 +104,17 @@ module _ (size n : ℕ) (c : Cursor) {next : Cursor} {r : Rising} (e : r ≡ ris
         let last : rises size next.file.now next.at r.last ≡ false = rw s (up.stops less) in
         rw (le-leb _ _ w.1, ← w.2) at last
 
-    pub tiles_end : Gives (must (eqb r.count n && eqb p 0) Refusal.bad_tile_pointer (c.at + size * r.count)) res → Walks (tiles size n 0) c res d
-    tiles_end g = record { gives = past ∙ go (eqb r.count n) refl (rw (← ap (λ x. x.at) s) at g); file = t.file ∙ same_file }
+    pub tiles_end : Walks (must (eqb r.count n && eqb p 0) Refusal.bad_tile_pointer (c.at + size * r.count)) d res end → Walks (tiles size n 0) c res end
+    tiles_end g = record {
+      gives = past ∙ go (eqb r.count n) refl (rw (← ap (λ x. x.at) s, t.file) at g.gives);
+      file = g.file ∙ t.file ∙ same_file;
+      stands = g.stands;
+    }
       where
         few : r.count ≤ n
         few = let up : Risen size c.file.now c.at n r = rw e (risen size c.file.now c.at n 0) in up.few
 
-        go : (b : Bool) → eqb r.count n ≡ b → Gives (must (b && eqb p 0) Refusal.bad_tile_pointer next.at) res
-            → run (tiles size (n - r.count) r.last) next.file.now next.at ≡ outcome (λ x. x) res d.at
+        go : (b : Bool) → eqb r.count n ≡ b → Tested (b && eqb p 0) → run (tiles size (n - r.count) r.last) next.file.now next.at ≡ outcome (λ x. x) res end.at
         go true h k = let same : r.count ≡ n = eqb-true _ _ h in closed (omega arith) k
         go false h k =
             let less : r.count < n = omega (arith, few, eqb-false r.count n h) in

@@ -59,6 +59,21 @@ impl<'a> Cursor<'a> {
         self.at = to;
     }
 
+    // Goes on where the test holds, and else is refused at the place.
+    #[tactic(auto, unfolding(crate::specs::Walk::run, crate::specs::Walk::must))]
+    pub fn check(&mut self, test: bool, reason: Reason, place: usize) -> Result<(), Refusal>
+        ensures walks { Walks (must test (number_of reason) place) self.old result self.new }
+        ensures holds { OnOk result (test ≡ true) }
+    {
+        match require(test, reason, place) {
+            Ok(()) => Ok(()),
+            Err(refusal) => {
+                self.at = refusal.place;
+                Err(refusal)
+            }
+        }
+    }
+
     // Passes over n bytes, and hands them out.
     #[tactic(auto, unfolding(crate::specs::Walk::run, crate::specs::Walk::bytes))]
     pub fn bytes(&mut self, n: usize) -> Result<&'a [u8], Refusal>
@@ -103,6 +118,7 @@ impl<'a> Cursor<'a> {
         let place = self.at;
         let bytes = self.bytes(size)?;
         let Some(name) = before_zero(bytes) else {
+            self.jump(start);
             return Err(Refusal {
                 reason: Reason::UnendedString,
                 place: start,

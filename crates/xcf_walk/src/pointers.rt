@@ -1,11 +1,11 @@
 // Lists of pointers: those of an image, closed by 0, and those of tiles, which rise.
-ghost use Rattle.std.specs.Prelude.{◌≡◌, ◌<◌, IfOk, IfSome};
+ghost use Rattle.std.specs.Prelude.{◌≡◌, ◌<◌, ◌≤◌, length, IfOk, IfSome};
 ghost use Rattle.xcf_store.specs.Width.{bytes_of};
 ghost use Rattle.xcf_walk.specs.Cursor.{WalksBy, Walks};
 ghost use Rattle.xcf_walk.specs.Pointers.{pointers, tiles};
 ghost use Rattle.xcf_walk.specs.Parts.{next_pointer};
 
-use crate::cursor::{Cursor, require};
+use crate::cursor::Cursor;
 use arrayvec::ArrayVec;
 use xcf_numbers::limit::{CHANNEL_LIMIT, LAYER_LIMIT};
 use xcf_numbers::reason::{Reason, Refusal};
@@ -29,7 +29,7 @@ impl<'a> Cursor<'a> {
         if p == 0 {
             return Ok(None);
         }
-        require(0 < left, Reason::TooMany, at)?;
+        self.check(0 < left, Reason::TooMany, at)?;
         Ok(Some(p))
     }
 
@@ -40,8 +40,21 @@ impl<'a> Cursor<'a> {
     ) -> Result<ArrayVec<usize, MOST>, Refusal>
         ensures { WalksBy (λ l. l.items) (pointers (bytes_of width) MOST) self.old result self.new }
     {
+        self.pointers_up_to(width, MOST)
+    }
+
+    // Pointers closed by 0, at most so many of those that the list holds.
+    pub fn pointers_up_to<const MOST: usize>(
+        &mut self,
+        width: Width,
+        most: usize,
+    ) -> Result<ArrayVec<usize, MOST>, Refusal>
+        requires { most ≤ MOST }
+        ensures walks { WalksBy (λ l. l.items) (pointers (bytes_of width) most) self.old result self.new }
+        ensures few { IfOk result (λ l. length l.items ≤ most) }
+    {
         let mut list = ArrayVec::new();
-        while let Some(p) = self.next_pointer(width, list.remaining_capacity())? {
+        while let Some(p) = self.next_pointer(width, most - list.len())? {
             list.push(p);
         }
         Ok(list)
@@ -57,6 +70,6 @@ impl<'a> Cursor<'a> {
         self.jump(at);
         let p = self.pointer(width)?;
         // By `&`, since the walk asks for both as one test.
-        require((right.count == n) & (p == 0), Reason::BadTilePointer, at)
+        self.check((right.count == n) & (p == 0), Reason::BadTilePointer, at)
     }
 }

@@ -5,7 +5,7 @@ ghost use Rattle.xcf_walk.specs.Property.{payload, colour_map, content, property
 ghost use Rattle.xcf_walk.specs.Cursor.{WalksBy, Walks};
 ghost use Rattle.xcf_walk.specs.Parts.{turn_of};
 
-use crate::cursor::{Cursor, require};
+use crate::cursor::Cursor;
 use xcf_numbers::limit::COLOUR_LIMIT;
 use xcf_numbers::property_type;
 use xcf_numbers::reason::{Reason, Refusal};
@@ -31,7 +31,7 @@ impl<'a> Cursor<'a> {
         ensures { Walks (payload size kind at n) self.old result self.new }
     {
         let right = length_ok(kind, n, size);
-        require(right, Reason::BadLength, at)?;
+        self.check(right, Reason::BadLength, at)?;
         let bytes = self.bytes(n as usize)?;
         Ok(content_of(bytes, 0, bytes.len()))
     }
@@ -41,11 +41,11 @@ impl<'a> Cursor<'a> {
     fn colour_map(&mut self, at: usize, n: u32) -> Result<Content, Refusal>
         ensures { Walks (colour_map at n) self.old result self.new }
     {
-        require(4 <= n, Reason::BadLength, at)?;
+        self.check(4 <= n, Reason::BadLength, at)?;
         let start = self.at;
         let count = self.word()?;
-        require(count <= COLOUR_LIMIT, Reason::BadContent, start)?;
-        require(map_length_ok(count, n), Reason::BadLength, at)?;
+        self.check(count <= COLOUR_LIMIT, Reason::BadContent, start)?;
+        self.check(map_length_ok(count, n), Reason::BadLength, at)?;
         self.bytes(3 * count as usize)?;
         Ok(Content {
             first: count,
@@ -102,9 +102,9 @@ impl<'a> Cursor<'a> {
         ensures { WalksBy (turn_of (list_number list) p) (property_turn size (list_number list) p) self.old result self.new }
     {
         let x = self.property(size, list)?;
-        require(!is_floating(list, x.kind), Reason::Floating, x.start)?;
-        require(!lacks_map(x.kind, p), Reason::BadContent, x.start)?;
-        require(
+        self.check(!is_floating(list, x.kind), Reason::Floating, x.start)?;
+        self.check(!lacks_map(x.kind, p), Reason::BadContent, x.start)?;
+        self.check(
             allowed(list, x.kind, x.content.first),
             Reason::BadContent,
             x.place,

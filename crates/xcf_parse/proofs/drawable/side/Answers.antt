@@ -13,4 +13,4 @@ unfolding side_ok
 side_small n e = leb-true _ _ ((and-eq-true_iff (leb 1 n) (leb n side_limit)).0 e).1
 
 pub returns-clause-value_le_side_limit : goal.returns-clause-value_le_side_limit
-returns-clause-value_le_side_limit c = side_small _ (sym c.side_ok.ensures ∙ c.in_ok-require.ensures.holds)
+returns-clause-value_le_side_limit c = side_small _ (sym c.side_ok.ensures ∙ c.in_ok-check.ensures.holds)

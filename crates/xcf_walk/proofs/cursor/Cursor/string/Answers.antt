@@ -24,7 +24,7 @@ pub returns-in_default : goal.returns-in_default
 unfolding string
 returns-in_default c =
     then_here _ (then _ c.in_ok-size.ensures (then_here _ (then _ c.in_ok-bytes.ensures.walks
-    (fails _ (rw c.in_ok-bytes.ensures.length at c.in_default.ensures)))))
+    (fails _ (rw c.in_ok-bytes.ensures.length at c.in_default.ensures) c.jump.ensures))))
 
 pub returns : goal.returns
 unfolding string

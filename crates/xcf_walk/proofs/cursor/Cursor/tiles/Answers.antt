@@ -11,4 +11,4 @@ pub returns-in_err-p : goal.returns-in_err-p
 returns-in_err-p c = tiles_stop _ _ _ c.rising_pointers-right.ensures (rw c.bytes-size.ensures at c.jump.ensures) c.in_err-p.ensures c.from_residual.ensures.1
 
 pub returns : goal.returns
-returns c = tiles_end _ _ _ c.rising_pointers-right.ensures (rw c.bytes-size.ensures at c.jump.ensures) _ c.in_ok-p.ensures (rw c.bytes-size.ensures at c.require.ensures.gives)
+returns c = tiles_end _ _ _ c.rising_pointers-right.ensures (rw c.bytes-size.ensures at c.jump.ensures) _ _ c.in_ok-p.ensures (rw c.bytes-size.ensures at c.check.ensures.walks)
