@@ -13,6 +13,7 @@ ghost use Rattle.xcf_tile.specs.Parts.{TileGiven, UsableTile};
 use xcf_numbers::fault::Fault;
 use xcf_numbers::limit::{DEPTH_LIMIT, TILE_SIDE, WINDOW_LIMIT};
 use xcf_numbers::reason::Reason;
+use xcf_range::outside;
 use xcf_stream::{StreamEnd, streams};
 
 #[repr(C)]
@@ -111,8 +112,9 @@ pub fn decode(
 pub fn usable_tile(width: u32, height: u32, depth: u32) -> bool
     ensures { result ≡ usable_tile width height depth }
 {
-    let side = 1..=TILE_SIDE;
-    side.contains(&width) && side.contains(&height) && (1..=DEPTH_LIMIT).contains(&depth)
+    !outside(1, TILE_SIDE, width)
+        && !outside(1, TILE_SIDE, height)
+        && !outside(1, DEPTH_LIMIT, depth)
 }
 
 // The compression of a call that is not refused.

@@ -10,6 +10,7 @@ use xcf_grid::tile_count;
 use xcf_numbers::kind;
 use xcf_numbers::limit::{DEPTH_LIMIT, FILE_LIMIT, SIDE_LIMIT, TABLE_SIZE};
 use xcf_numbers::reason::Reason;
+use xcf_range::outside;
 use xcf_store::pointer::Width;
 use xcf_table::Row;
 use xcf_tile::Compression;
@@ -28,11 +29,10 @@ pub struct Drawable<'a> {
 fn in_range(row: Row) -> bool
     ensures { result ≡ in_range row }
 {
-    let side = 1..=SIDE_LIMIT;
-    (kind::LAYER..=kind::CHANNEL).contains(&row.kind)
-        && side.contains(&row.width)
-        && side.contains(&row.height)
-        && (1..=DEPTH_LIMIT).contains(&row.depth)
+    !outside(kind::LAYER, kind::CHANNEL, row.kind)
+        && !outside(1, SIDE_LIMIT, row.width)
+        && !outside(1, SIDE_LIMIT, row.height)
+        && !outside(1, DEPTH_LIMIT, row.depth)
 }
 
 // Whether the row's tiles are as many as its sides take, and their pointers and the closing one lie in a file of this length.
