@@ -1,13 +1,13 @@
--- A row that is not refused has its numbers in range (`row_usable`); where nothing of the drawable is refused, it is ready and the
--- buffers fit (`drawable_ready`), since no walk is refused with 0. Buffers that fit have the row's lengths
--- (`fit_lengths`).
+-- A row that is not refused has its numbers in range, with a size of pointers and a compression that are taken (`row_usable`); where
+-- nothing of the drawable is refused, it is ready and the buffers fit (`drawable_ready`), since no walk is refused with 0. Buffers that
+-- fit have the row's lengths (`fit_lengths`).
 -- Assumes nothing.
-use Prim.Native.Nat.{ℕ, zero, suc, ◌*◌, ◌<◌}
+use Prim.Native.Nat.{ℕ, zero, suc, ◌*◌, ◌≤◌, ◌<◌}
 use mathlib.Core.Path.{◌≡◌, refl, sym}
 use mathlib.Core.List.{List}
 use mathlib.Core.Bool.{Bool, true, false, cond, and-eq-true_iff}
 use native.Mathlib.Omega.{arith}
-use borrow.Author.Tests.{eqb-true, ne_eqb}
+use borrow.Author.Tests.{leb-true, eqb-true, ne_eqb}
 use lib.Dec.{leb, eqb}
 use lib.ListN.{length}
 use Rattle.xcf_numbers.specs.Limit.{file_limit, table_size}
@@ -15,7 +15,8 @@ use Rattle.xcf_numbers.specs.Refusal
 use Rattle.xcf_walk.specs.Walk.{Outcome, got, refused, run}
 use Rattle.xcf_table.specs.declared.Row.{Row}
 use Rattle.xcf_walk.specs.Pointers.{tiles}
-use Rattle.xcf_store.specs.Pointer.{pointer_size_ok}
+use Rattle.xcf_store.proofs.Sizes.{size_of}
+use Rattle.xcf_store.specs.Pointer.{pointer_size_ok, PointerSize}
 use Rattle.xcf_walk.specs.Fields.{number}
 use Rattle.xcf_walk_laws.proofs.Refusals.{Refuses, refuses_done, refuses_here, refuses_length, refuses_must, refuses_bytes, refuses_bind}
 use Rattle.xcf_window.proofs.Ranges.{range_of}
@@ -37,7 +38,7 @@ cond_zero : (b : Bool) (x y : ℕ) → (y ≡ 0 → ⊥) → cond b x y ≡ 0 �
 cond_zero true x y other e = (refl, e)
 cond_zero false x y other e = absurd (other e)
 
-row_usable : (size file_length n : ℕ) (r : Row) (compression : ℕ) → row_refusal size file_length n r compression ≡ 0 → InRange r
+pub row_usable : (size file_length n : ℕ) (r : Row) (compression : ℕ) → row_refusal size file_length n r compression ≡ 0 → PointerSize size × InRange r × (compression ≤ 1)
 unfolding row_refusal decodable_row
 row_usable size file_length n r compression e =
     let table = cond_zero (eqb n table_size) _ 11 (λ z. omega (arith, z)) e in
@@ -45,7 +46,7 @@ row_usable size file_length n r compression e =
     let usable = (and-eq-true_iff (pointer_size_ok size) _).0 (cond_zero (decodable_row size file_length r compression) _ 14 (λ z. omega (arith, z)) file.1).0 in
     let row = (and-eq-true_iff (in_range r) _).0 usable.1 in
     let inside = (and-eq-true_iff (in_file size file_length r) _).0 row.1 in
-    range_of size file_length r row.0 inside.0
+    (size_of usable.0, range_of size file_length r row.0 inside.0, leb-true compression 1 inside.1)
 
 -- a walk over tile pointers is not refused with 0
 refuses_number : (size : ℕ) → Refuses (λ n. 0 < n) (number size)
@@ -64,19 +65,19 @@ pointers_taken (got u q) number z = (q, refl)
 pointers_taken (refused n p) number z = absurd (omega (arith, z, number n p refl))
 
 pub drawable_ready : (size : ℕ) (f : List ℕ) (n : ℕ) (r : Row) (compression : ℕ) (fit : Bool)
-    → (drawable_refusal size f n r compression fit).number ≡ 0 → Ready size f r × (fit ≡ true)
+    → (drawable_refusal size f n r compression fit).number ≡ 0 → PointerSize size × Ready size f r × (compression ≤ 1) × (fit ≡ true)
 unfolding drawable_refusal
 drawable_ready size f n r compression fit = go (row_refusal size (length f) n r compression) refl fit
   where
     go : (m : ℕ) → row_refusal size (length f) n r compression ≡ m → (b : Bool)
         → (cond (eqb m 0) (cond b (pointers_refusal (run (tiles size r.count 0) f r.pointers)) (refusal Refusal.wrong_buffer 0)) (refusal m 0)).number ≡ 0
-        → Ready size f r × (b ≡ true)
+        → PointerSize size × Ready size f r × (compression ≤ 1) × (b ≡ true)
     go (suc m) e b z = absurd (let h : suc m ≡ 0 = rw (ne_eqb (suc m) 0 (λ h. omega (arith, h))) at z in omega (arith, h))
     go zero e false z = absurd (omega (arith, z))
     go zero e true z =
         let usable = row_usable size (length f) n r compression e in
         let end = pointers_taken (run (tiles size r.count 0) f r.pointers) (λ n p e. (refuses_tiles size r.count 0).number f r.pointers e) z in
-        (record { range = usable; end = end.0; pointers = end.1 }, refl)
+        (usable.0, record { range = usable.1; end = end.0; pointers = end.1 }, usable.2, refl)
 
 pub fit_lengths : (r : Row) (pixels marks : ℕ) → fits r pixels marks ≡ true → (pixels ≡ r.width * r.height * r.depth) × (marks ≡ r.count)
 unfolding fits

@@ -42,6 +42,6 @@ drawable_good_when_valid size file table k compression pixels marks =
     let answer = drawable_refusal size file (length table) r compression (fits r (length pixels) (length marks)) in
     cond_both (eqb answer.number 0) _ _ (λ (d : Decoding). d.answer.number ≡ 0 → (t : ℕ) → t < r.count → TileGood size file r compression t d)
     (λ e _.
-    let range = (drawable_ready size file (length table) r compression _ (eqb-true _ _ e)).0.range in
+    let range = (drawable_ready size file (length table) r compression _ (eqb-true _ _ e)).1.range in
     row_good_when_valid size file r compression range.wide.0 range.deep.0 range.count)
     (λ e z. absurd (eqb-false _ _ e z))

@@ -25,18 +25,18 @@ pointers_length r pixels n t p = rw (words_length, starts_length, encodings_coun
 
 module _ (r : Row) (pixels : List ℕ) where
   -- the encodings from tile t on, and the pointers to them where the first is at p
-  abbrev tiles_from : ℕ → List ℕ
+  abbrev pub tiles_from : ℕ → List ℕ
   tiles_from t = flatten (encodings (r.count - t) t r pixels)
 
-  abbrev pointers_from : ℕ → ℕ → List ℕ
+  abbrev pub pointers_from : ℕ → ℕ → List ℕ
   pointers_from t p = words (starts (encodings (r.count - t) t r pixels) p)
 
-  pointers_next : (t p : ℕ) → t < r.count → pointers_from t p
+  pub pointers_next : (t p : ℕ) → t < r.count → pointers_from t p
       ≡ word_bytes p ++ pointers_from (t + 1) (p + length (encoding_of r t pixels))
   unfolding starts flat_map
   pointers_next t p below = rw (encodings_next r pixels r.count t below)
 
-  pointers_none : (t p : ℕ) → r.count ≤ t → pointers_from t p ≡ []
+  pub pointers_none : (t p : ℕ) → r.count ≤ t → pointers_from t p ≡ []
   unfolding starts flat_map
   pointers_none t p over = rw (encodings_none r pixels r.count t over)
 

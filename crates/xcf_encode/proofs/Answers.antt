@@ -14,9 +14,10 @@ use Rattle.xcf_numbers.specs.Limit.{stream_limit}
 use Rattle.xcf_numbers.specs.declared.reason.Reason.{Reason}
 use Rattle.xcf_numbers.specs.declared.reason.Reason.TheVariants as reason
 use Rattle.xcf_numbers.specs.Reason.{number_of}
+use Rattle.xcf_numbers.specs.Refusal
 use Rattle.xcf_segment.specs.Segment.{encode_stream}
 use Rattle.xcf_encode.specs.Tile.{encode_tile}
-use Rattle.xcf_encode.specs.Answer.{room_refusal, stream_refusal, tile_refusal, encode_answer, encode_output}
+use Rattle.xcf_encode.specs.Answer.{room_refusal, stream_refusal, tile_refusal, encode_answer, encode_output, StreamEncoded}
 use Rattle.xcf_store.specs.Put.{Put}
 use Rattle.xcf_encode.specs.Parts.{Encodes, EncodedInto, StreamEncodes, TileEncodes}
 use Rattle.xcf_tile.specs.Answer.{usable_tile}
@@ -31,6 +32,12 @@ pub no_room : (e old : List ℕ) → length old < length e → EncodedInto e old
 unfolding room_refusal
 no_room e old h = refused reason.NoRoom e old (rw (lt-ltb _ _ h)) (λ z. omega arith)
 
+-- the same of the answer: no room
+pub no_room_lem : (e old : List ℕ) → length old < length e
+    → (record { number = Refusal.no_room; place = 0; length = 0 } ≡ encode_answer (room_refusal (length e) (length old)) e)
+    × (old ≡ encode_output (room_refusal (length e) (length old)) e old)
+no_room_lem e old h = let x = no_room e old h in (x.answer, x.output)
+
 pub stored : {e old : List ℕ} {r : ℕ} {new : List ℕ} → length e ≤ length old → Put old 0 e r new → EncodedInto e old (Ok r) new
 unfolding room_refusal encode_answer encode_output
 stored {e} {old} h p =
@@ -41,6 +48,10 @@ stored {e} {old} h p =
 pub stream_long : (stream old : List ℕ) → stream_limit < length stream → StreamEncodes stream old (Err reason.WrongBuffer) old
 unfolding stream_refusal
 stream_long stream old h = refused reason.WrongBuffer (encode_stream stream) old (rw (lt-ltb _ _ h)) (λ z. omega arith)
+
+-- the same of the answer: the stream is too long
+pub too_long_lem : (stream old : List ℕ) → stream_limit < length stream → StreamEncoded stream old (record { number = Refusal.wrong_buffer; place = 0; length = 0 }) old
+too_long_lem stream old h = let x = stream_long stream old h in record { answer = x.answer; output = x.output }
 
 pub stream_room : (stream old : List ℕ) → length stream ≤ stream_limit → room_refusal (length (encode_stream stream)) (length old) ≡ stream_refusal stream (length old)
 unfolding stream_refusal

@@ -1,6 +1,6 @@
 -- The lines that a tile takes of its drawable's pixels are what the pixels show of the tile (`lines_shown`, `lines_put`): byte by
 -- byte, byte b of line j (`lines_entry`) is a byte of the tile's pixel in line j. They fit where the tile's pixels fit (`tiled_fit`,
--- `lines_fit`).
+-- `lines_fit`), and the numbers on the way there are small (`tiled_small`, `lines_size`).
 -- Assumes nothing.
 use Prim.Native.Nat.{ℕ, zero, suc, ◌+◌, ◌*◌, ◌/◌, ◌%◌, ◌≤◌, ◌<◌}
 use mathlib.Core.Path.{◌≡◌, sym, ap, ◌∙◌}
@@ -23,7 +23,7 @@ use Rattle.xcf_grid.proofs.Places.{place_below}
 use Rattle.xcf_grid.proofs.PixelBytes.{byte_pixel, byte_high}
 use Rattle.xcf_grid.proofs.Tabulated.{tabulate_length, tabulate_entry}
 use Rattle.xcf_grid.proofs.PutTile.{tile_framed}
-use Rattle.xcf_grid.proofs.PutRoom.{frame_room}
+use Rattle.xcf_grid.proofs.PutRoom.{Small, frame_small, frame_room}
 use Rattle.xcf_grid.specs.Drawn.{Tiled}
 
 -- the first of some lines lies in the pixels, and so do the others
@@ -106,6 +106,9 @@ module _ {r : Row} {t : ℕ} {pixels : List ℕ} (d : Tiled r t pixels) where
   own_room : tw * th * depth ≤ length (shown w r.height depth t pixels)
   own_room = omega (arith, shown_length)
 
+  pub tiled_small : Small r (frame_of r t)
+  tiled_small = frame_small (placeable (shown w r.height depth t pixels) own_room)
+
   lines_shown : lines pixels corner (depth * w) (depth * tw) th ≡ shown w r.height depth t pixels
   lines_shown = ext_get_or 0 _ _ (omega (arith, size, shown_length)) (λ i below. entry i (omega (arith, below, size)))
     where
@@ -133,6 +136,9 @@ module _ {r : Row} {t : ℕ} {pixels : List ℕ} (d : Tiled r t pixels) where
   pub lines_fit : {across width height : ℕ} (tile : List ℕ) → across ≡ tiles_along w → width ≡ tw → height ≡ th → length tile ≡ tile_size
       → LinesFit pixels (depth * (tile_side * (w * (t / across) + t % across))) (depth * w) (depth * width) height tile
   lines_fit tile along wide high whole = rw (along, wide, high) (tiled_fit tile (omega (arith, whole, tiled_size.1)))
+
+  pub lines_size : {width height : ℕ} → width ≡ tw → height ≡ th → depth * width * height ≤ tile_size
+  lines_size wide high = rw (wide, high) (omega (arith, tiled_size.1))
 
   pub lines_put : {across width height : ℕ} (tile new : List ℕ) → across ≡ tiles_along w → width ≡ tw → height ≡ th
       → new ≡ sets tile 0 (lines pixels (depth * (tile_side * (w * (t / across) + t % across))) (depth * w) (depth * width) height)

@@ -2,7 +2,7 @@
 -- with no line left it names the tile (`taking_over`). What is left to take from here on gives all that was to be taken.
 -- Assumes nothing.
 use Prim.Native.Nat.{ℕ, zero, suc, ◌+◌, ◌-◌, ◌≤◌, ◌<◌}
-use mathlib.Core.Path.{◌≡◌, ◌∙◌}
+use mathlib.Core.Path.{◌≡◌, refl, ◌∙◌}
 use mathlib.Core.List.{List}
 use native.Mathlib.Omega.{arith}
 use native.Mathlib.Numerals.{sub-one}
@@ -13,7 +13,7 @@ use Rattle.xcf_numbers.specs.Limit.{word_limit}
 use Rattle.xcf_store.specs.Word.{part}
 use Rattle.xcf_store.proofs.Stores.{sets_append}
 use Rattle.xcf_store.proofs.Parts.{part_length}
-use Rattle.xcf_grid.specs.Parts.{lines}
+use Rattle.xcf_grid.specs.Parts.{lines, LinesFit}
 use Rattle.xcf_grid.proofs.LinePlaces.{LinePlaces, next_line, places_next, line_copied}
 
 pub record Taking (pixels : List ℕ) (start stride line n : ℕ) (old tile : List ℕ) (from to rest : ℕ) : Type 0 where
@@ -21,6 +21,10 @@ pub record Taking (pixels : List ℕ) (start stride line n : ℕ) (old tile : Li
   pub places : LinePlaces (length pixels) from stride (length tile) to line line rest
   pub small : length pixels + stride < word_limit
   pub taken : sets tile to (lines pixels from stride line rest) ≡ sets old 0 (lines pixels start stride line n)
+
+pub taking_start : {pixels : List ℕ} {start stride line n : ℕ} {old : List ℕ} → LinesFit pixels start stride line n old
+    → Taking pixels start stride line n old old start 0 n
+taking_start f = record { same = refl; places = record { inside = f.source; room = omega (arith, f.target) }; small = f.small; taken = refl }
 
 line_stored : (tile : List ℕ) (to : ℕ) (pixels : List ℕ) (from line : ℕ) → (from + line ≤ length pixels) × (to + line ≤ length tile)
     → {k : ℕ} {copied : List ℕ} → k ≡ line → copied ≡ take (from + line - from) (drop from pixels)

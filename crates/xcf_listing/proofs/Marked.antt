@@ -56,7 +56,7 @@ marked_few size file table k compression =
     let n = length table in
     let answer = drawable_refusal size file n r compression true in
     cond_both (eqb answer.number 0) (counted (marks_of size file r compression)) answer (λ (a : DecodeAnswer). a.marked ≤ 65536)
-    (λ e. range_few size compression file (drawable_ready size file n r compression true (eqb-true _ 0 e)).0.range)
+    (λ e. range_few size compression file (drawable_ready size file n r compression true (eqb-true _ 0 e)).1.range)
     (λ _. omega (arith, refusal_none size file n r compression))
 
 module _ (size : ℕ) (file table : List ℕ) (compression : ℕ) where

@@ -8,4 +8,4 @@ pub mod AcceptedRows
 pub mod Accepts
 pub mod ReadDepends
 pub mod Widths
-mod Versions
+pub mod Versions

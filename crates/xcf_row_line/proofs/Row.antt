@@ -40,6 +40,15 @@ row_line_lem table k marked within =
     let count : row_size * k + row_size - (row_size * k + 1) ≡ row_size - 1 = omega arith in
     rw (row_there table k within, count)
 
+-- its parts, put one behind the other, each within its bound
+pub line_put : (table : List ℕ) (k marked : ℕ) {old t₁ t₂ t₃ new : List ℕ} {at r₁ r₂ r₃ r : ℕ} → row_size * (k + 1) ≤ length table
+    → PutWithin old at (decimal k) 20 r₁ t₁ → PutWithin t₁ r₁ (kind_name (get_or table (row_size * k) 0)) 8 r₂ t₂
+    → PutWithin t₂ r₂ (flat_map spaced (fields table k)) (21 * length (fields table k)) r₃ t₃
+    → PutWithin t₃ r₃ (labelled bad marked ++ newline) 26 r new → PutWithin old at (row_line table k marked) line_size r new
+line_put table k marked within a b c d =
+    rw (row_line_lem table k marked within)
+    (within_more line_size (simp length-take (omega arith)) (within_append a (within_append b (within_append c d))))
+
 -- the number is put, the kind behind it, the fields behind both
 module _ (table : List ℕ) (k : ℕ) {old t₁ : List ℕ} {at r₁ : ℕ} (room : at + line_size ≤ length old) (a : PutWithin old at (decimal k) 20 r₁ t₁) where
   room_1 : r₁ + 380 ≤ length t₁

@@ -8,7 +8,7 @@ use Prim.Native.Nat.{ℕ, suc, ◌+◌, ◌≤◌, ◌<◌}
 use native.Mathlib.Numerals.{add-one, one-add}
 use native.Mathlib.Omega.{arith}
 use borrow.Author.Tests.{eq-eqb, ne_eqb, le-leb, lt-leb, eqb-true, eqb-false}
-use lib.ListN.{length, get_or, drop, length-drop}
+use lib.ListN.{length, get_or, drop, length-drop, drop_of_length-le}
 use lib.Seq.{drop-cons}
 use lib.Dec.{leb, eqb}
 use Rattle.std.specs.List.{prefix_len}
@@ -20,20 +20,26 @@ unfolding leading
 leading_prefix v [] = refl
 leading_prefix v (x ∷ xs) = rw (leading_prefix v xs, one-add)
 
+module _ (s : List ℕ) (i : ℕ) where
+  -- at the end there is none
+  pub leading_end : (v : ℕ) → length s ≤ i → leading v (drop i s) ≡ 0
+  unfolding leading
+  leading_end v h = rw (drop_of_length-le s h)
+
 module _ (s : List ℕ) (i : ℕ) (h : i < length s) where
   first_byte : drop i s ≡ get_or s i 0 ∷ drop (i + 1) s
   first_byte = rw add-one (drop-cons s i 0 h)
 
   -- one byte v more, or none
-  leading_same : (v : ℕ) → get_or s i 0 ≡ v → leading v (drop i s) ≡ 1 + leading v (drop (i + 1) s)
+  pub leading_same : (v : ℕ) → get_or s i 0 ≡ v → leading v (drop i s) ≡ 1 + leading v (drop (i + 1) s)
   unfolding leading
   leading_same v e = rw (first_byte, eq-eqb _ _ e) (omega arith)
 
-  leading_other : (v : ℕ) → (get_or s i 0 ≡ v → ⊥) → leading v (drop i s) ≡ 0
+  pub leading_other : (v : ℕ) → (get_or s i 0 ≡ v → ⊥) → leading v (drop i s) ≡ 0
   unfolding leading
   leading_other v e = rw (first_byte, ne_eqb _ _ e)
 
-  equal_leading : equal_bytes (drop i s) ≡ 1 + leading (get_or s i 0) (drop (i + 1) s)
+  pub equal_leading : equal_bytes (drop i s) ≡ 1 + leading (get_or s i 0) (drop (i + 1) s)
   unfolding equal_bytes
   equal_leading = rw first_byte (omega arith)
 

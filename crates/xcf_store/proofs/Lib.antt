@@ -6,3 +6,4 @@ pub mod Risen
 pub mod Room
 pub mod Items
 pub mod Words
+pub mod SetsApart

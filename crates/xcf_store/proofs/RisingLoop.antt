@@ -1,7 +1,7 @@
 -- The loops over rising pointers, by pairs and then one by one: `RisingLeft` holds at the first one's head (`going_start`), and what is
 -- left there at the second's. A pair that rises keeps it (`going_pair`), and so does a pointer that rises (`going_next`). Where the next
--- does not rise (`going_ends`) or none is left (`going_over`) it names the answer. The pointers that lie in the file are
--- all that can rise (`rising_in`).
+-- does not rise (`going_falls` or `going_beyond`, so `going_ends`) or none is left (`going_over`) it names the answer. The pointers that
+-- lie in the file are all that can rise (`rising_in`).
 -- Assumes nothing.
 use Prim.Native.Nat.{ℕ, zero, suc, ◌+◌, ◌-◌, ◌*◌, ◌≤◌, ◌<◌}
 use mathlib.Core.Path.{◌≡◌, refl, sym, ◌∙◌, ap}
@@ -45,10 +45,10 @@ module _ {size : ℕ} {f : List ℕ} {at n i last : ℕ} (g : RisingLeft size f 
   stops : rising size f (at + size * i) (n - i) last ≡ record { count = 0; last = last } → record { count = i; last = last } ≡ rising size f at n 0
   stops e = sym (g.whole ∙ ap (in_front i) e ∙ rw add-zero)
 
-  going_falls : number_at size f (at + size * i) ≤ last → record { count = i; last = last } ≡ rising size f at n 0
+  pub going_falls : number_at size f (at + size * i) ≤ last → record { count = i; last = last } ≡ rising size f at n 0
   going_falls h = stops (none_rises size f _ _ last (rw (le-ltb _ _ h) (falls (leb (at + size * i + size) (length f)) (ltb (number_at size f (at + size * i)) (length f)))))
 
-  going_beyond : length f ≤ number_at size f (at + size * i) → record { count = i; last = last } ≡ rising size f at n 0
+  pub going_beyond : length f ≤ number_at size f (at + size * i) → record { count = i; last = last } ≡ rising size f at n 0
   going_beyond h = stops (none_rises size f _ _ last (rw (le-ltb _ _ h) (beyond (leb (at + size * i + size) (length f)) (ltb last (number_at size f (at + size * i))))))
 
   pub going_ends : (leb (number_at size f (at + size * i)) last || leb (length f) (number_at size f (at + size * i))) ≡ true → record { count = i; last = last } ≡ rising size f at n 0

@@ -1,5 +1,6 @@
 pub mod Counts
 pub mod Zeros
+pub mod ZeroRow
 pub mod BadLoop
 pub mod AllUsable
 pub mod Each

@@ -1,9 +1,10 @@
 -- Tile t of a row that is not refused. The pointers lie in the file (`pointers_inside`), and the tile's pixels in a scratch
--- (`pixels_small`); what its decoding gives is the tile's (`scratched`, `scratch_pixels`).
+-- (`pixels_small`); its mark is 21 at most (`mark_small`); what its decoding gives is the tile's (`scratched`, `scratch_pixels`).
 -- Assumes nothing.
 use Prim.Native.Nat.{ℕ, ◌+◌, ◌-◌, ◌*◌, ◌≤◌, ◌<◌}
 use mathlib.Core.Path.{◌≡◌, ap, sym, ◌∙◌}
 use mathlib.Core.List.{List, ◌++◌}
+use mathlib.Core.Logic.{⊎_elim}
 use native.Mathlib.Omega.{arith}
 use lib.ListN.{length, take, drop}
 use lib.Seq.{length-take-le, length_front, take-append_seam}
@@ -17,6 +18,7 @@ use Rattle.xcf_stream.specs.declared.StreamEnd.{StreamEnd}
 use Rattle.xcf_numbers.specs.Fault.{mark_of_any}
 use Rattle.xcf_laws.proofs.Products.{small}
 use Rattle.xcf_tile_laws.proofs.Pixels.{pixels_length}
+use Rattle.xcf_tile_laws.proofs.Marks.{Listed, mark_listed}
 use Rattle.xcf_grid.specs.declared.frame.Frame.{Frame}
 use Rattle.xcf_window.specs.Window.{pointer_at, window_end, window_length, window, tile}
 use Rattle.xcf_window.specs.Parts.{Ready, Scratched}
@@ -30,6 +32,14 @@ pointers_inside {size} {f} {r} ready = tiles_inside size r.count 0 f r.pointers 
 
 pub scratch_pixels : {t : Tile} {m : ℕ} {old new : List ℕ} → Scratched t m old new → take (length t.pixels) new ≡ t.pixels
 scratch_pixels {t} {old = old} s = rw s.content (take-append_seam t.pixels (drop (length t.pixels) old))
+
+listed_small : {m : ℕ} → Listed m → m ≤ 21
+listed_small l = ⊎_elim (λ e. omega arith) (λ l'. ⊎_elim (λ e. omega arith) (λ e. omega arith) l') l
+
+pub mark_small : (size : ℕ) (f : List ℕ) (r : Row) (compression t : ℕ) → (tile size f r compression t).mark ≤ 21
+unfolding tile
+mark_small size f r compression t =
+    listed_small (mark_listed (window size f r t) (tile_width r.width t) (tile_height r.width r.height t) r.depth compression)
 
 module _ {size : ℕ} {f : List ℕ} {r : Row} {t : ℕ} {s : Frame} (ready : Ready size f r) (below : t < r.count) (frame : s ≡ frame_of r t) where
   width_in_range : (1 ≤ s.width) × (s.width ≤ 64)

@@ -3,11 +3,11 @@
 use Prim.Native.Nat.{ℕ, ◌≤◌, ◌<◌}
 use mathlib.Core.Path.{◌≡◌, sym, ap, ◌∙◌}
 use mathlib.Core.List.{List, ◌++◌}
-use mathlib.Core.Bool.{true, false, ◌&&◌}
+use mathlib.Core.Bool.{true, false, ◌&&◌, and-eq-true_iff}
 use mathlib.Core.Logic.{◌⊎◌, inl, inr}
 use native.Mathlib.Nat.{zero-add}
 use native.Mathlib.Omega.{arith}
-use borrow.Author.Tests.{le-leb, lt-leb}
+use borrow.Author.Tests.{leb-true, le-leb, lt-leb}
 use lib.ListN.{length, drop}
 use lib.Seq.{sets-eq}
 use lib.Dec.{leb}
@@ -22,6 +22,12 @@ use Rattle.xcf_body.specs.Parts.{end_of}
 use Rattle.xcf_write.specs.Parts.{Fitted}
 use Rattle.xcf_write.proofs.FileLaws.{file_length_lem}
 use Rattle.xcf_write.proofs.Accepted.{fitted, not_fitted}
+
+-- a size that fits
+pub fits_room : (size room : ℕ) → (leb size room && leb size file_limit) ≡ true → (size ≤ room) × (size ≤ file_limit)
+fits_room size room e =
+    let both = (and-eq-true_iff (leb size room) (leb size file_limit)).0 e in
+    (leb-true _ _ both.0, leb-true _ _ both.1)
 
 -- the test of a size that fits, and of one that does not
 size_fits : (size room : ℕ) → size ≤ room → size ≤ file_limit → (leb size room && leb size file_limit) ≡ true

@@ -57,6 +57,10 @@ unfolding places_from
 places_length [] p = refl
 places_length (d ∷ ds) p = ap suc (places_length ds (p + drawable_size d))
 
+pub places_long : (table names pixels old places : List ℕ) (n start : ℕ) → length old ≡ places_size
+    → places ≡ sets old 0 (places_from (drawables_from table n 0 names pixels) start) → length places ≡ places_size
+places_long table names pixels old places n start long e = ap length e ∙ length-sets old 0 (places_from (drawables_from table n 0 names pixels) start) ∙ long
+
 pub places_stored : (table names pixels old places : List ℕ) (n start : ℕ) → n ≤ table_rows → length places ≡ places_size
     → places ≡ sets old 0 (places_from (drawables_from table n 0 names pixels) start) → Placed places 0 (drawables_from table n 0 names pixels) start
 places_stored table names pixels old places n start few long e =
